@@ -1,0 +1,2 @@
+-- Times as whole minutes, negative ones too.
+pub mod Linear

@@ -1,0 +1,1 @@
+// Signed minutes: sums, the greater, the lesser, the gap.
