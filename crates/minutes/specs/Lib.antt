@@ -1,2 +1,5 @@
 -- Times as whole minutes, negative ones too.
 pub mod Linear
+pub mod Sum
+pub mod Packing
+pub mod Time

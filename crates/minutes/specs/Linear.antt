@@ -88,11 +88,11 @@ ltZ-false (pos a) (negsuc b) e = omega arith
 ltZ-false (negsuc a) (pos b) e = let z : _≡_ {A = ℕ} 0 1 = cc in omega arith
 ltZ-false (negsuc a) (negsuc b) e = omega (arith, ltb-false b a e)
 
-is-true : (t : Bool) → (t ≡ false → ⊥) → t ≡ true
+pub is-true : (t : Bool) → (t ≡ false → ⊥) → t ≡ true
 is-true true h = refl
 is-true false h = absurd (h refl)
 
-is-false : (t : Bool) → (t ≡ true → ⊥) → t ≡ false
+pub is-false : (t : Bool) → (t ≡ true → ⊥) → t ≡ false
 is-false false h = refl
 is-false true h = absurd (h refl)
 

@@ -22,9 +22,7 @@ unfoldable pub difference : ℕ → ℕ → ℕ → ℕ
 difference n a b = bitAnd a (2 ^ n - 1 - b)
 
 unfoldable pub with : ℕ → ℕ → ℕ
-unfolding union singleton
 with w k = union w (singleton k)
 
 unfoldable pub without : ℕ → ℕ → ℕ → ℕ
-unfolding difference singleton
 without n w k = difference n w (singleton k)

@@ -1,37 +1,179 @@
--- What the operations on words do to the members of a set: the laws at any width. Nothing outside this file and Bit opens
+-- What the operations on words do to the members of a set: the laws, at any width. Nothing but this file and Bit opens
 -- `bit`. Assumes nothing.
 use Prim.Native.Nat.{ℕ, zero, suc, _+_, _-_, _*_, _/_, _%_, _^_, _≤_, _<_}
-use mathlib.Core.Bool.{Bool, true, false, not, _&&_, _||_}
-use mathlib.Core.Logic.{⊎-elim, _⊎_, inl, inr}
-use mathlib.Core.Path.{_≡_, refl, sym, ap, ap₂, _∙_}
-use native.Mathlib.Nat.{div-eq-of-lt, div-one, div-div-eq-div-mul, lt-of-lt-of-le, lt-of-le-of-lt, mod-lt, mul-comm, one-mul, pow-suc}
+use mathlib.Core.Bool.{Bool, true, false, cond, not, _&&_, _||_}
+use mathlib.Core.Path.{_≡_, refl, sym, ap, _∙_}
+use native.Mathlib.Decide.{decLt}
+use native.Mathlib.Nat.{div-eq-of-lt, div-one, lt-of-lt-of-le, lt-of-le-of-lt, mod-eq-of-lt, mod-lt, one-mul, pow-suc}
 use native.Mathlib.Omega.{arith}
 use lib.Arith.{bin-ind}
-use lib.Bits.{bitAnd, bitOr, and-le-l, and-mod, and-shr, or-lt, or-mod, or-shr, shifted-even, shifted-half}
-use lib.Dec.{eqb, ltb, eqb·zero-suc, eqb·suc-zero, eqb·suc-suc}
-use lib.Pow.{pow-lt, pow-mono, pow-pos, shr-shr}
-use borrow.Author.Tests.{eq-eqb, eqb-false, eqb-true, ltb-false, ltb-true, ne-eqb}
+use lib.Bits.{bitAnd, bitOr, and-le-l, and-mask, and-mod, and-shr, or-lt, or-mod, or-shr}
+use lib.Dec.{eqb, eqb·zero-suc, eqb·suc-zero, eqb·suc-suc}
+use lib.Pow.{pow-lt, pow-mono, pow-pos, shr-shr, split}
 use Rattle.words.specs.Bit.{bit, singleton, union, intersection, difference, with, without}
 
--- ---- digits: what holds of 0 and of 1 holds of every remainder by 2
-digit : (P : ℕ → Type 0) → P 0 → P 1 → (d : ℕ) → d < 2 → P d
-digit P p0 p1 zero h = p0
-digit P p0 p1 (suc zero) h = p1
-digit P p0 p1 (suc (suc d)) h = absurd (omega arith)
+-- ---- digits
 
--- two digits are equal where their tests are
-digit-same : (a b : ℕ) → eqb (a % 2) 1 ≡ eqb (b % 2) 1 → a % 2 ≡ b % 2
-digit-same a b = ?
+-- what holds of 0 and of 1 holds of every remainder by 2
+digit : (P : ℕ → Type 0) → P 0 → P 1 → (w : ℕ) → P (w % 2)
+digit P p q w = go (w % 2) (omega arith)
+  where
+    go : (d : ℕ) → d < 2 → P d
+    go zero h = p
+    go (suc zero) h = q
+    go (suc (suc d)) h = absurd (omega arith)
 
--- ---- the lowest bit, and the bits above it
 bit-low : (w : ℕ) → bit w 0 ≡ eqb (w % 2) 1
 unfolding bit
 bit-low w = ap (λ (x : ℕ). eqb (x % 2) 1) (div-one w)
+
+-- words with the same lowest bit have the same lowest digit, since the bit tells the digit
+same-digit : (a b : ℕ) → bit a 0 ≡ bit b 0 → a % 2 ≡ b % 2
+same-digit a b e = told a ∙ ap (λ (t : Bool). cond t 1 0) e ∙ sym (told b)
+  where
+    told : (w : ℕ) → w % 2 ≡ cond (bit w 0) 1 0
+    told w = rw bit-low (digit (λ (d : ℕ). d ≡ cond (eqb d 1) 1 0) refl refl w)
 
 bit-shift : (w i k : ℕ) → bit (w / 2 ^ i) k ≡ bit w (i + k)
 unfolding bit
 bit-shift w i k = ap (λ (x : ℕ). eqb (x % 2) 1) (shr-shr w i k)
 
 bit-half : (w k : ℕ) → bit (w / 2) k ≡ bit w (suc k)
-unfolding bit
 bit-half w k = bit-shift w 1 k ∙ ap (bit w) (omega arith)
+
+-- ---- the empty set, one member, and the bits past the width
+
+pub bit-high : (n w k : ℕ) → w < 2 ^ n → n ≤ k → bit w k ≡ false
+unfolding bit
+bit-high n w k h l = ap (λ (x : ℕ). eqb (x % 2) 1) (div-eq-of-lt (lt-of-lt-of-le h (pow-mono l)))
+
+pub bit-zero : (k : ℕ) → bit 0 k ≡ false
+bit-zero k = bit-high 0 0 k (omega arith) (omega arith)
+
+pub bit-singleton : (j k : ℕ) → bit (singleton j) k ≡ eqb j k
+unfolding singleton
+bit-singleton zero zero = bit-low 1
+bit-singleton zero (suc k) = sym (bit-half 1 k) ∙ bit-zero k ∙ sym (eqb·zero-suc k)
+bit-singleton (suc j) zero =
+    let even : 2 ^ suc j % 2 ≡ 0 = omega (arith, pow-suc 2 j) in
+    bit-low (2 ^ suc j) ∙ ap (λ (x : ℕ). eqb x 1) even ∙ sym (eqb·suc-zero j)
+bit-singleton (suc j) (suc k) =
+    let half : 2 ^ suc j / 2 ≡ 2 ^ j = omega (arith, pow-suc 2 j) in
+    sym (bit-half (2 ^ suc j) k) ∙ ap (λ (x : ℕ). bit x k) half ∙ bit-singleton j k ∙ sym (eqb·suc-suc j k)
+
+-- ---- a set is what its bits say
+
+empty : (w : ℕ) → ((k : ℕ) → bit w k ≡ false) → w ≡ 0
+empty =
+    bin-ind (λ (w : ℕ). ((k : ℕ) → bit w k ≡ false) → w ≡ 0) (λ h. refl)
+    (λ w ih h. omega (arith, ih (λ k. bit-half w k ∙ h (suc k)), same-digit w 0 (h 0 ∙ sym (bit-zero 0))))
+
+pub bits-bound : (n w : ℕ) → ((k : ℕ) → n ≤ k → bit w k ≡ false) → w < 2 ^ n
+bits-bound n w h =
+    let none : w / 2 ^ n ≡ 0 = empty (w / 2 ^ n) (λ k. bit-shift w n k ∙ h (n + k) (omega arith)) in
+    omega (arith, rw none at (split w n), mod-lt w (pow-pos n))
+
+-- two words with the same bits are equal
+pub bit-ext : (a b : ℕ) → ((k : ℕ) → bit a k ≡ bit b k) → a ≡ b
+bit-ext =
+    bin-ind (λ (a : ℕ). (b : ℕ) → ((k : ℕ) → bit a k ≡ bit b k) → a ≡ b)
+    (λ b h. sym (empty b (λ k. sym (h k) ∙ bit-zero k)))
+    (λ a ih b h. omega (arith, ih (b / 2) (λ k. bit-half a k ∙ h (suc k) ∙ sym (bit-half b k)), same-digit a b (h 0)))
+
+-- ---- operations bit by bit
+
+-- an operation that commutes with shifts and masks is told by its table on single digits
+module _ (op : ℕ → ℕ → ℕ) (f : Bool → Bool → Bool)
+    (shr : (a b k : ℕ) → op a b / 2 ^ k ≡ op (a / 2 ^ k) (b / 2 ^ k))
+    (low : (a b k : ℕ) → op a b % 2 ^ k ≡ op (a % 2 ^ k) (b % 2 ^ k))
+    (t00 : eqb (op 0 0) 1 ≡ f false false) (t01 : eqb (op 0 1) 1 ≡ f false true)
+    (t10 : eqb (op 1 0) 1 ≡ f true false) (t11 : eqb (op 1 1) 1 ≡ f true true) where
+  table : (a b : ℕ) → eqb (op (a % 2) (b % 2)) 1 ≡ f (eqb (a % 2) 1) (eqb (b % 2) 1)
+  table a b =
+      digit (λ (x : ℕ). eqb (op x (b % 2)) 1 ≡ f (eqb x 1) (eqb (b % 2) 1))
+      (digit (λ (y : ℕ). eqb (op 0 y) 1 ≡ f false (eqb y 1)) t00 t01 b)
+      (digit (λ (y : ℕ). eqb (op 1 y) 1 ≡ f true (eqb y 1)) t10 t11 b)
+      a
+
+  bit-op : (a b k : ℕ) → bit (op a b) k ≡ f (bit a k) (bit b k)
+  unfolding bit
+  bit-op a b k =
+      ap (λ (x : ℕ). eqb (x % 2) 1) (shr a b k)
+      ∙ ap (λ (x : ℕ). eqb x 1) (low (a / 2 ^ k) (b / 2 ^ k) 1)
+      ∙ table (a / 2 ^ k) (b / 2 ^ k)
+
+pub bit-union : (a b k : ℕ) → bit (union a b) k ≡ (bit a k || bit b k)
+unfolding union
+bit-union = bit-op bitOr _||_ or-shr or-mod refl refl refl refl
+
+pub bit-intersection : (a b k : ℕ) → bit (intersection a b) k ≡ (bit a k && bit b k)
+unfolding intersection
+bit-intersection = bit-op bitAnd _&&_ and-shr and-mod refl refl refl refl
+
+bit-complement : (n b k : ℕ) → b < 2 ^ n → k < n → bit (2 ^ n - 1 - b) k ≡ not (bit b k)
+bit-complement zero b k h l = absurd (omega arith)
+bit-complement (suc n) b zero h l =
+    let flipped : (2 ^ suc n - 1 - b) % 2 ≡ 1 - b % 2 = omega (arith, pow-suc 2 n) in
+    bit-low (2 ^ suc n - 1 - b) ∙ ap (λ (x : ℕ). eqb x 1) flipped
+    ∙ digit (λ (d : ℕ). eqb (1 - d) 1 ≡ not (eqb d 1)) refl refl b ∙ ap not (sym (bit-low b))
+bit-complement (suc n) b (suc k) h l =
+    let half : (2 ^ suc n - 1 - b) / 2 ≡ 2 ^ n - 1 - b / 2 = omega (arith, pow-suc 2 n) in
+    sym (bit-half (2 ^ suc n - 1 - b) k) ∙ ap (λ (x : ℕ). bit x k) half
+    ∙ bit-complement n (b / 2) k (omega (arith, pow-suc 2 n)) (omega arith) ∙ ap not (bit-half b k)
+
+pub bit-difference : (n a b k : ℕ) → a < 2 ^ n → b < 2 ^ n → bit (difference n a b) k ≡ (bit a k && not (bit b k))
+unfolding difference intersection
+bit-difference n a b k ha hb = bit-intersection a (2 ^ n - 1 - b) k ∙ kept (decLt k n)
+  where
+    kept : Dec (k < n) → (bit a k && bit (2 ^ n - 1 - b) k) ≡ (bit a k && not (bit b k))
+    kept (yes h) = ap (λ (t : Bool). bit a k && t) (bit-complement n b k hb h)
+    kept (no h) = rw (bit-high n a k ha (omega arith))
+
+-- ---- ranges
+
+pub union-lt : (n a b : ℕ) → a < 2 ^ n → b < 2 ^ n → union a b < 2 ^ n
+unfolding union
+union-lt = or-lt
+
+pub intersection-lt : (n a b : ℕ) → a < 2 ^ n → intersection a b < 2 ^ n
+unfolding intersection
+intersection-lt n a b h = lt-of-le-of-lt (and-le-l a b) h
+
+pub difference-lt : (n a b : ℕ) → a < 2 ^ n → difference n a b < 2 ^ n
+unfolding difference
+difference-lt n a b h = lt-of-le-of-lt (and-le-l a (2 ^ n - 1 - b)) h
+
+pub singleton-lt : (n j : ℕ) → j < n → singleton j < 2 ^ n
+unfolding singleton
+singleton-lt n j h = pow-lt h
+
+-- ---- one job in, one job out
+
+pub bit-with : (w j k : ℕ) → bit (with w j) k ≡ (bit w k || eqb j k)
+unfolding with
+bit-with w j k = rw (bit-union, bit-singleton)
+
+pub with-lt : (n w j : ℕ) → w < 2 ^ n → j < n → with w j < 2 ^ n
+unfolding with
+with-lt n w j h l = union-lt n w (singleton j) h (singleton-lt n j l)
+
+pub bit-without : (n w j k : ℕ) → w < 2 ^ n → j < n → bit (without n w j) k ≡ (bit w k && not (eqb j k))
+unfolding without
+bit-without n w j k h l =
+    bit-difference n w (singleton j) k h (singleton-lt n j l) ∙ ap (λ (t : Bool). bit w k && not t) (bit-singleton j k)
+
+pub without-lt : (n w j : ℕ) → w < 2 ^ n → without n w j < 2 ^ n
+unfolding without
+without-lt n w j h = difference-lt n w (singleton j) h
+
+-- ---- the code's shifts and masks
+
+-- `(w >> k) & 1 == 1`
+pub bit-tested : (w k : ℕ) → eqb (bitAnd (w / 2 ^ k) 1) 1 ≡ bit w k
+unfolding bit
+bit-tested w k = ap (λ (x : ℕ). eqb x 1) (and-mask (w / 2 ^ k) 1)
+
+-- `1 << k`, which at a word of n bits loses no job below n
+pub singleton-shifted : (n k : ℕ) → k < n → 1 * 2 ^ k % 2 ^ n ≡ singleton k
+unfolding singleton
+singleton-shifted n k h = ap (λ (x : ℕ). x % 2 ^ n) (one-mul (2 ^ k)) ∙ mod-eq-of-lt (pow-lt h)

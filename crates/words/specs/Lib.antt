@@ -1,2 +1,3 @@
+-- Sets of jobs as words: the definitions, and their laws.
 pub mod Bit
 pub mod BitLaws

@@ -1,0 +1,21 @@
+-- The closure: the rules applied until nothing is left to infer, or a mark would have to change.
+use mathlib.Core.Path.{_≡_}
+use mathlib.Core.Bool.{Bool}
+use mathlib.Core.Option.{Option, none, some}
+use Prim.Native.Nat.{ℕ, zero, suc, _+_, _*_}
+use Rattle.board.specs.declared.Board.{Board}
+use Rattle.board.specs.View.{View, view}
+use Rattle.board.specs.Limits.{jobLimit}
+use Rattle.board.specs.Updates.{update}
+use Rattle.closure.specs.Find.{find}
+
+-- Each inference uses up a minute of a window, an arc or a live job, so that there are never more steps than this.
+abbrev pub steps : ℕ
+steps = jobLimit * 2000001 + jobLimit * jobLimit
+
+unfoldable pub close : ℕ → Board → Option Board
+close zero b = some b
+close (suc n) b = elim (find (view b)) [ none ↦ some b | some f ↦ elim (update b f) [ none ↦ none | some c ↦ close n c ] ]
+
+unfoldable pub closure : Board → Option Board
+closure b = close steps b
