@@ -1,21 +1,14 @@
 -- What an update does, said by the order alone: the least board above b, within the limits, that shows one more fact.
-use mathlib.Core.Path.{_≡_}
-use mathlib.Core.Logic.{_≢_}
+use mathlib.Core.Path.{_≡_, refl}
 use mathlib.Core.Option.{Option, none, some}
-use Prim.Native.Nat.{ℕ, _<_}
+use Prim.Native.Nat.{ℕ, suc, _<_}
 use Rattle.board.specs.declared.Board.{Board}
-use Rattle.board.specs.View.{View, view}
-use Rattle.board.specs.Facts.{Fact, is-arc, is-bound, is-valid, is-invalid, Holds}
+use Rattle.board.specs.View.{Row, View, view, rowOf}
+use Rattle.board.specs.Facts.{Fact, Holds}
 use Rattle.board.specs.Inference.{Obeys}
-use Rattle.board.specs.Entries.{_⊑_}
+use Rattle.board.specs.Entries.{Shown, _⊑_}
+use Rattle.board.specs.Order.{⊑-refl}
 use Rattle.board.specs.Limits.{Within}
-
--- a fact about jobs of the view, an arc between different ones
-abbrev pub Known : View → Fact → Type 0
-Known v (is-arc i k) = (i < v .jobs) × (k < v .jobs) × (i ≢ k)
-Known v (is-bound s j z) = j < v .jobs
-Known v (is-valid j) = j < v .jobs
-Known v (is-invalid j) = j < v .jobs
 
 -- c is b with more shown: within the limits, with the same jobs and tally, above b
 pub record Above (b c : Board) : Type 0 where
@@ -23,6 +16,16 @@ pub record Above (b c : Board) : Type 0 where
   pub jobs : c .jobs ≡ b .jobs
   pub tally : c .tally ≡ b .tally
   pub above : view b ⊑ view c
+
+-- a board within its limits is above itself
+pub above-self : (b : Board) → Within b → Above b b
+above-self b h =
+    record {
+      within = h;
+      jobs = refl;
+      tally = refl;
+      above = ⊑-refl (view b) λ i k a. (h .arcs i k a .0 .0, h .arcs i k a .1 .0);
+    }
 
 pub record Extended (b : Board) (f : Fact) (c : Board) : Type 0 where
   pub more : Above b c
@@ -33,3 +36,12 @@ pub record Extended (b : Board) (f : Fact) (c : Board) : Type 0 where
 abbrev pub Updated : Board → Fact → Option Board → Type 0
 Updated b f (some c) = Extended b f c
 Updated b f none = (w : View) → view b ⊑ w → Obeys w → Holds w f → ⊥
+
+-- c is the least board above b that has one more job, whose row shows r
+pub record Appended (b : Board) (r : Row) (c : Board) : Type 0 where
+  pub within : Within c
+  pub jobs : c .jobs ≡ suc (b .jobs)
+  pub tally : c .tally ≡ b .tally
+  pub above : view b ⊑ view c
+  pub row : rowOf c (b .jobs) ≡ r
+  pub least : (w : View) → view b ⊑ w → b .jobs < w .jobs → Shown r (w .row (b .jobs)) → view c ⊑ w

@@ -1,5 +1,6 @@
 -- Facts: what entries state, rules infer and boards show.
 use mathlib.Core.Path.{_≡_}
+use mathlib.Core.Logic.{_≢_}
 use Prim.Native.Nat.{ℕ, _<_}
 use lib.IntN.{ℤ}
 use lib.Signed.{_≤ℤ_}
@@ -18,3 +19,10 @@ Holds v (is-arc i k) = (i < v .jobs) × (k < v .jobs) × (Live v i → Live v k 
 Holds v (is-bound s j z) = (j < v .jobs) × (Live v j → z ≤ℤ bound s (v .row j))
 Holds v (is-valid j) = Valid v j
 Holds v (is-invalid j) = Invalid v j
+
+-- the fact is about jobs of a board of n jobs, and an arc about different ones
+abbrev pub Known : ℕ → Fact → Type 0
+Known n (is-arc i k) = (i < n) × (k < n) × (i ≢ k)
+Known n (is-bound s j z) = j < n
+Known n (is-valid j) = j < n
+Known n (is-invalid j) = j < n

@@ -22,7 +22,7 @@ pub data Infers (v : View) : Fact → Type 0 where
   r1 : (a b c : ℕ) → Live v a → Valid v b → Live v c → a ≢ c → Arc v a b → Arc v b c → Infers v (is-arc a c)
   r2 : (a b : ℕ) → Valid v a → Live v b → Arc v a b → Arc v b a → Infers v (is-invalid b)
   r3 : (a b : ℕ) → Live v a → Live v b → a ≢ b
-    → v .row b .latest <ℤ (v .row a .earliest +ℤ v .row a .length +ℤ v .row b .length) → Infers v (is-arc b a)
+      → v .row b .latest <ℤ (v .row a .earliest +ℤ v .row a .length +ℤ v .row b .length) → Infers v (is-arc b a)
   r45 : (s : Side) (j : ℕ) (S : ℕ → Bool) (m : ℤ) → Live v j → Pushing v s j S m → Infers v (is-bound s j (m +ℤ energy v S))
   r6 : (j : ℕ) → Live v j → v .row j .latest <ℤ (v .row j .earliest +ℤ v .row j .length) → Infers v (is-invalid j)
 

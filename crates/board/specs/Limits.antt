@@ -72,5 +72,5 @@ emptyBoard t =
       marks = replicate jobLimit 0;
       after = replicate jobLimit 0;
       before = replicate jobLimit 0;
-      tally = t
+      tally = t;
     }

@@ -14,7 +14,7 @@ pub shown-refl : (r : Row) → Shown r r
 shown-refl r =
     record { valid = λ e. e; invalid = λ e. e; length = λ l. refl; earliest = λ l. omega whole; latest = λ l. omega whole }
 
-shown-trans : {r s t : Row} → Shown r s → Shown s t → Shown r t
+pub shown-trans : {r s t : Row} → Shown r s → Shown s t → Shown r t
 shown-trans {r} {s} {t} h k =
     let live : t .mark ≢ 2 → s .mark ≢ 2 = λ l e. l (k .invalid e) in
     record {
@@ -22,7 +22,7 @@ shown-trans {r} {s} {t} h k =
       invalid = λ e. k .invalid (h .invalid e);
       length = λ l. k .length l ∙ h .length (live l);
       earliest = λ l. omega (whole, k .earliest l, h .earliest (live l));
-      latest = λ l. omega (whole, k .latest l, h .latest (live l))
+      latest = λ l. omega (whole, k .latest l, h .latest (live l));
     }
 
 module _ (v w : View) (up : v ⊑ w) where
@@ -66,7 +66,7 @@ module _ (v w : View) (up : v ⊑ w) where
       record {
         jobs = omega (arith, h .jobs, up .jobs);
         rows = λ k l. shown-trans (h .rows k l) (up .rows k (omega (arith, h .jobs)));
-        facts = λ f e. holds-up f (h .facts f e)
+        facts = λ f e. holds-up f (h .facts f e);
       }
 
 pub ⊑-refl : (v : View) → ((i k : ℕ) → Arc v i k → (i < v .jobs) × (k < v .jobs)) → v ⊑ v

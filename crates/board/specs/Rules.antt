@@ -39,13 +39,13 @@ module _ (v : View) where
   -- x is the member of S with the least E
   abbrev pub R4 : Type 0
   R4 = (b : ℕ) → Live v b → (S : ℕ → Bool) → ((k : ℕ) → S k ≡ true → Valid v k × Arc v k b)
-    → (x : ℕ) → S x ≡ true → ((k : ℕ) → S k ≡ true → E x ≤ℤ E k) → (E x +ℤ energy v S) ≤ℤ E b
+      → (x : ℕ) → S x ≡ true → ((k : ℕ) → S k ≡ true → E x ≤ℤ E k) → (E x +ℤ energy v S) ≤ℤ E b
 
   -- "D of a live A is at most (greatest D in S) - (sum of lengths in S) for each non-empty set S of valid jobs that A has
   -- arcs to"; x is the member of S with the greatest D
   abbrev pub R5 : Type 0
   R5 = (a : ℕ) → Live v a → (S : ℕ → Bool) → ((k : ℕ) → S k ≡ true → Valid v k × Arc v a k)
-    → (x : ℕ) → S x ≡ true → ((k : ℕ) → S k ≡ true → D k ≤ℤ D x) → D a ≤ℤ (D x -ℤ energy v S)
+      → (x : ℕ) → S x ≡ true → ((k : ℕ) → S k ≡ true → D k ≤ℤ D x) → D a ≤ℤ (D x -ℤ energy v S)
 
   -- "E + length > D makes an undecided job invalid and a valid one a contradiction"
   abbrev pub R6 : Type 0

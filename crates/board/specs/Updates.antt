@@ -3,7 +3,7 @@
 use mathlib.Core.Bool.{Bool, cond, _&&_}
 use mathlib.Core.List.{List, map}
 use mathlib.Core.Option.{Option, none, some}
-use Prim.Native.Nat.{ℕ}
+use Prim.Native.Nat.{ℕ, suc}
 use lib.Dec.{eqb}
 use lib.IntN.{ℤ, pos, negℤ, _+ℤ_}
 use lib.ListN.{getD, set}
@@ -26,7 +26,7 @@ store b j r =
       marks = set (b .marks) j (r .mark);
       after = b .after;
       before = b .before;
-      tally = b .tally
+      tally = b .tally;
     }
 
 -- an arc i to k, in both words that keep it
@@ -40,7 +40,7 @@ link b i k =
       marks = b .marks;
       after = set (b .after) i (with (getD (b .after) i 0) k);
       before = set (b .before) k (with (getD (b .before) k 0) i);
-      tally = b .tally
+      tally = b .tally;
     }
 
 -- the words without job j, and no arcs of its own
@@ -59,7 +59,7 @@ invalidate b j =
       marks = c .marks;
       after = isolate (b .after) j;
       before = isolate (b .before) j;
-      tally = c .tally
+      tally = c .tally;
     }
 
 -- a row with its bound on one side raised to z
@@ -87,3 +87,18 @@ update b (is-bound s j z) =
     cond (live (view b) j && ltZ (bound s (rowOf b j)) z) (tighten b j (raised s z (rowOf b j))) (some b)
 update b (is-valid j) = cond (eqb (rowOf b j .mark) 2) none (some (store b j (validated (rowOf b j))))
 update b (is-invalid j) = exclude b j
+
+-- a job added: its row at the first place without a job
+abbrev pub append : Board → Row → Board
+append b r =
+    let c = store b (b .jobs) r in
+    record {
+      jobs = suc (b .jobs);
+      lengths = c .lengths;
+      earliest = c .earliest;
+      latest = c .latest;
+      marks = c .marks;
+      after = b .after;
+      before = b .before;
+      tally = b .tally;
+    }

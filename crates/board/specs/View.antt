@@ -55,7 +55,7 @@ rowOf b k =
       mark = getD (b .marks) k 0;
       length = getD (b .lengths) k (pos 0);
       earliest = getD (b .earliest) k (pos 0);
-      latest = getD (b .latest) k (pos 0)
+      latest = getD (b .latest) k (pos 0);
     }
 
 abbrev pub arcOf : Board → ℕ → ℕ → Bool

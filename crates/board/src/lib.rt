@@ -18,10 +18,15 @@ pub struct Board {
 
 impl Board {
     pub const JOBS: usize = 64;
+
     pub const FIRST_MINUTE: i32 = -500000;
+
     pub const LAST_MINUTE: i32 = 500000;
+
     pub const SHORTEST: i32 = 1;
+
     pub const LONGEST: i32 = 10000;
+
     pub const TALLY: u32 = 1000000;
 
     // A board without jobs whose tally starts at 0.

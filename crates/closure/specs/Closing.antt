@@ -18,4 +18,4 @@ close zero b = some b
 close (suc n) b = elim (find (view b)) [ none ↦ some b | some f ↦ elim (update b f) [ none ↦ none | some c ↦ close n c ] ]
 
 unfoldable pub closure : Board → Option Board
-closure b = close steps b
+closure b = close (suc steps) b

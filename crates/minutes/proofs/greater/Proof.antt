@@ -1,14 +1,15 @@
--- `minutes::greater` gives the greater of its two times.
+-- `minutes::greater` gives the greater of its two times: the test compares the times that the machine reads back from their bits.
+use borrow.Author.Needs.{needs}
 use mir.ValLaws.{toZ-ofZ}
 use Rattle.minutes.specs.Time.{greater}
 use Rattle.minutes.proofs.greater.Statement.{statement}
 use Rattle.minutes.proofs.greater.Tie as tie
 
 returns : tie.Need-returns
-returns c = let f = c .before .fits in simp (toZ-ofZ, f .a, f .b, simp (toZ-ofZ, f .a, f .b) at (c .if1 .taken), greater)
+returns c = let f = c .before .fits in rw (simp (toZ-ofZ, f .a, f .b) at (c .if1 .taken), greater) (search needs)
 
 returns-2 : tie.Need-returns-2
-returns-2 c = let f = c .before .fits in simp (toZ-ofZ, f .a, f .b, simp (toZ-ofZ, f .a, f .b) at (c .if1 .left), greater)
+returns-2 c = let f = c .before .fits in rw (simp (toZ-ofZ, f .a, f .b) at (c .if1 .left), greater) (search needs)
 
 pub greater-spec : {M : Type 1} → statement M
 greater-spec = tie.close (tie.spec returns returns-2)

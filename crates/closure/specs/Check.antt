@@ -1,0 +1,17 @@
+-- Check 0: "the board handed in breaks a limit above, keeps something twice that doesn't agree, or isn't closed over what
+-- it shows", as a test.
+use mathlib.Core.Bool.{Bool, true, false, _&&_}
+use mathlib.Core.Option.{Option, none, some}
+use Rattle.board.specs.declared.Board.{Board}
+use Rattle.board.specs.View.{View, view}
+use Rattle.board.specs.LimitsTest.{withinLimits}
+use Rattle.board.specs.Facts.{Fact}
+use Rattle.closure.specs.Find.{find}
+
+-- nothing is left to infer
+unfoldable pub settled : Option Fact → Bool
+settled none = true
+settled (some f) = false
+
+unfoldable pub passes : Board → Bool
+passes b = withinLimits b && settled (find (view b))

@@ -1,0 +1,54 @@
+-- The test of check 0 holds exactly of the boards within the limits that are closed over what they show.
+use mathlib.Core.Path.{_≡_, refl}
+use mathlib.Core.Logic.{_↔_}
+use mathlib.Core.Bool.{Bool, true, false}
+use mathlib.Core.Option.{Option, none, some}
+use Prim.Native.Nat.{ℕ}
+use Rattle.board.specs.declared.Board.{Board}
+use Rattle.board.specs.View.{view}
+use Rattle.board.specs.Facts.{Fact}
+use Rattle.board.specs.Inference.{Obeys}
+use Rattle.board.specs.Limits.{Within}
+use Rattle.board.specs.LimitsTest.{withinLimits}
+use Rattle.board.specs.LimitsDecided.{limits-yes, limits-show}
+use Rattle.board.specs.Tests.{and-parts, and-both, refuted}
+use Rattle.board.specs.Entries.{Closed, Least, shown}
+use Rattle.board.specs.Leastness.{handed-in}
+use Rattle.board.specs.RulesAgree.{obeys-rules, rules-obey}
+use Rattle.closure.specs.Find.{find}
+use Rattle.closure.specs.FindSound.{find-sound}
+use Rattle.closure.specs.FindComplete.{find-complete}
+use Rattle.closure.specs.Closes.{lengths}
+use Rattle.closure.specs.Check.{settled, passes}
+
+settled-none : (o : Option Fact) → settled o ≡ true → o ≡ none
+unfolding settled
+settled-none none e = refl
+settled-none (some f) e = absurd (refuted refl e)
+
+nothing-left : (b : Board) → Obeys (view b) → (o : Option Fact) → find (view b) ≡ o → settled o ≡ true
+unfolding settled
+nothing-left b obeys none e = refl
+nothing-left b obeys (some f) e = let (i, unshown) = find-sound (view b) f e in absurd (unshown (obeys f i))
+
+module _ (b : Board) where
+  pub passes-within : passes b ≡ true → Within b
+  unfolding passes
+  passes-within e = limits-yes b (and-parts (withinLimits b) (settled (find (view b))) e .0)
+
+  pub passes-obeys : passes b ≡ true → Obeys (view b)
+  unfolding passes
+  passes-obeys e =
+      find-complete (view b) (lengths b (passes-within e))
+      (settled-none (find (view b)) (and-parts (withinLimits b) (settled (find (view b))) e .1))
+
+  pub obeys-passes : Within b → Obeys (view b) → passes b ≡ true
+  unfolding passes
+  obeys-passes within obeys = and-both (withinLimits b) (settled (find (view b))) (limits-show b within) (nothing-left b obeys (find (view b)) refl)
+
+  -- "a board handed in that passes check 0 is the least closed board over what it shows"
+  pub passes-least : passes b ≡ true → Least (shown (view b)) b
+  passes-least e = handed-in b (passes-within e) (obeys-rules (view b) (passes-obeys e))
+
+  pub passes-closed : (passes b ≡ true) ↔ Closed (shown (view b)) b
+  passes-closed = (λ e. passes-least e .closed, λ c. obeys-passes (c .within) (rules-obey (view b) (c .rules)))

@@ -1,0 +1,101 @@
+-- What an entry that meets no refusal of the table says, in the paper's words.
+use mathlib.Core.Path.{_≡_, refl, sym, subst}
+use mathlib.Core.Logic.{_≢_, ⊎-elim}
+use mathlib.Core.Bool.{Bool, true, false, not, cond, _&&_}
+use mathlib.Core.List.{List, [], _∷_, List·Memᴰ, List·Memᴰ·not-nil, List·Memᴰ·cases-cons, List·Memᴰ·eq-of-singleton}
+use mathlib.Core.Option.{Option, none, some}
+use Prim.Native.Nat.{ℕ, suc, _<_, _≤_}
+use native.Mathlib.Omega.{arith}
+use lib.Dec.{leb, eqb}
+use lib.IntN.{ℤ, pos, negsuc}
+use lib.Signed.{leZ, ltZ, _≤ℤ_, _<ℤ_}
+use borrow.Author.Tests.{leb-false, not-false}
+use Rattle.minutes.specs.Linear.{whole, below}
+use Rattle.board.specs.declared.Refusal.{Refusal}
+use Rattle.board.specs.View.{Side}
+use Rattle.board.specs.Facts.{Fact, is-bound, is-valid, is-invalid, Known}
+use Rattle.board.specs.Limits.{IsTime, Fits, jobLimit}
+use Rattle.board.specs.Tests.{and-parts, refuted}
+use Rattle.board.specs.Decides.{Decides, _and_}
+use Rattle.board.specs.LimitsDecided.{decides-between, decides-time, decides-length}
+use Rattle.entries.specs.Entry.{Entry, addition, arc, mark, cut, number, addedRow, stated}
+use Rattle.entries.specs.Gate.{Check, isJob, checks, gate}
+
+-- the entry is one that a board of n jobs can take
+abbrev pub Allowed : ℕ → Entry → Type 0
+Allowed n (addition l e d m) = (n < jobLimit) × Fits (addedRow l e d m) × (number m ≤ 1)
+Allowed n (arc a b) = (number a < n) × (number b < n) × (number a ≢ number b)
+Allowed n (mark j m) = (number j < n) × (1 ≤ number m) × (number m ≤ 2)
+Allowed n (cut j e d) = (number j < n) × IsTime e × IsTime d
+
+some-none : {A : Type 0} {a : A} → _≡_ {A = Option A} (some a) none → ⊥
+some-none {a} e = let z : _≡_ {A = ℕ} 0 1 = cc in omega arith
+
+-- a check that is not met, and those after it
+passed : (c : Check) (cs : List Check) → gate (c ∷ cs) ≡ none → (c .met ≡ false) × (gate cs ≡ none)
+unfolding gate
+passed c cs e = go (c .met) refl
+  where
+    go : (t : Bool) → c .met ≡ t → (c .met ≡ false) × (gate cs ≡ none)
+    go true m = let z : _≡_ {A = Option Refusal} (some (c .refusal)) none = rw (m, gate) at e in absurd (some-none z)
+    go false m = (m, rw (m, gate) at e)
+
+not-below : (z : ℤ) → leZ (pos 0) z ≡ true → below z ≡ 0
+not-below (pos a) e = refl
+not-below (negsuc a) e = absurd (refuted refl e)
+
+job : (n : ℕ) (z : ℤ) → isJob n z ≡ true → (number z < n) × (below z ≡ 0)
+job n z t =
+    let (a, b) = and-parts (leZ (pos 0) z) (ltZ z (pos n)) t in
+    let none-below = not-below z a in
+    (omega (whole, none-below), none-below)
+
+-- a test that its check did not find broken
+passes : {t : Bool} {P : Type 0} → Decides t P → not t ≡ false → P
+passes {t} d e = d .yes (not-false t e)
+
+pub gate-allows : (n : ℕ) (e : Entry) → gate (checks n e) ≡ none → Allowed n e
+gate-allows n (addition l e d m) g =
+    let (full, g1) = passed _ _ g in
+    let (len, g2) = passed _ _ g1 in
+    let (time, g3) = passed _ _ g2 in
+    let (window, g4) = passed _ _ g3 in
+    let (mk, g5) = passed _ _ g4 in
+    let (low, high) = passes (decides-between (pos 0) (pos 1) m) mk in
+    let (te, td) = passes (decides-time e and decides-time d) time in (
+      omega (arith, leb-false jobLimit n full),
+      record { length = passes (decides-length l) len; earliest = te; latest = td },
+      omega (whole, not-below m (omega whole)),
+    )
+gate-allows n (arc a b) g =
+    let (js, g1) = passed _ _ g in
+    let (same, g2) = passed _ _ g1 in
+    let (ja, jb) = and-parts (isJob n a) (isJob n b) (not-false _ js) in
+    let (la, ba) = job n a ja in
+    let (lb, bb) = job n b jb in
+    (la, lb, λ e. refuted same (decides-between b b a .show (omega whole, omega whole)))
+gate-allows n (mark j m) g =
+    let (js, g1) = passed _ _ g in
+    let (mk, g2) = passed _ _ g1 in
+    let (low, high) = passes (decides-between (pos 1) (pos 2) m) mk in
+    let none-below = not-below m (omega whole) in
+    (job n j (not-false _ js) .0, omega whole, omega whole)
+gate-allows n (cut j e d) g =
+    let (js, g1) = passed _ _ g in
+    let (time, g2) = passed _ _ g1 in
+    let (te, td) = passes (decides-time e and decides-time d) time in
+    (job n j (not-false _ js) .0, te, td)
+
+-- the facts that such an entry states are about jobs of the board
+pub allowed-known : (n : ℕ) (e : Entry) → Allowed n e → (f : Fact) → List·Memᴰ f (stated e) → Known n f
+allowed-known n (addition l e d m) ok f i = absurd (List·Memᴰ·not-nil i)
+allowed-known n (arc a b) ok f i = subst (Known n) (sym (List·Memᴰ·eq-of-singleton i)) ok
+allowed-known n (mark j m) ok f i = subst (Known n) (sym (List·Memᴰ·eq-of-singleton i)) (either (eqb (number m) 1))
+  where
+    either : (t : Bool) → Known n (cond t (is-valid (number j)) (is-invalid (number j)))
+    either true = ok .0
+    either false = ok .0
+allowed-known n (cut j e d) ok f i = ⊎-elim bound (λ i′. bound (List·Memᴰ·eq-of-singleton i′)) (List·Memᴰ·cases-cons i)
+  where
+    bound : {s : Side} {z : ℤ} → f ≡ is-bound s (number j) z → Known n f
+    bound e = subst (Known n) (sym e) (ok .0)

@@ -1,0 +1,65 @@
+-- Telling the answers apart: the checks 1 to 7 never give 8, and acceptance is no refusal.
+use mathlib.Core.Path.{_≡_, refl, subst}
+use mathlib.Core.Bool.{Bool, true, false, _&&_}
+use mathlib.Core.List.{List, [], _∷_}
+use mathlib.Core.Option.{Option, none, some}
+use Prim.Native.Nat.{ℕ, _<_}
+use native.Mathlib.Omega.{arith}
+use lib.Dec.{ltb}
+use borrow.Author.Tests.{ltb-true}
+use Rattle.board.specs.declared.Board.{Board}
+use Rattle.board.specs.declared.Refusal.{Refusal}
+use Rattle.board.specs.declared.Refusal.the-variants as Refused
+use Rattle.board.specs.Refusals.{numberOf}
+use Rattle.board.specs.Tests.{and-parts}
+use Rattle.entries.specs.declared.Answer.{Answer}
+use Rattle.entries.specs.declared.Answer.the-variants as Answers
+use Rattle.entries.specs.declared.Entered.{Entered}
+use Rattle.entries.specs.Entry.{Entry, addition, arc, mark, cut}
+use Rattle.entries.specs.Gate.{Check, checks, gate}
+use Rattle.entries.specs.Enter.{acceptance}
+use Rattle.entries.specs.Exact.{Ends, by-table, impossible, accepted}
+
+-- every line's number is below 8
+low : List Check → Bool
+low [] = true
+low (c ∷ cs) = ltb (numberOf (c .refusal)) 8 && low cs
+
+gate-low : (cs : List Check) (r : Refusal) → low cs ≡ true → gate cs ≡ some r → numberOf r < 8
+unfolding low gate
+gate-low [] r l g = let z : _≡_ {A = ℕ} 0 1 = cc in absurd (omega arith)
+gate-low (c ∷ cs) r l g = go (c .met) refl (and-parts (ltb (numberOf (c .refusal)) 8) (low cs) l) (λ h. gate-low cs r h)
+  where
+    go : (t : Bool) → c .met ≡ t → (ltb (numberOf (c .refusal)) 8 ≡ true) × (low cs ≡ true)
+        → (low cs ≡ true → gate cs ≡ some r → numberOf r < 8) → numberOf r < 8
+    go true m h rest =
+        let found : _≡_ {A = Option Refusal} (some (c .refusal)) (some r) = rw (m, gate) at g in
+        let same : c .refusal ≡ r = cc in
+        subst (λ x. numberOf x < 8) same (ltb-true (numberOf (c .refusal)) 8 (h .0))
+    go false m h rest = rest (h .1) (rw (m, gate) at g)
+
+low-checks : (n : ℕ) (e : Entry) → low (checks n e) ≡ true
+unfolding low
+low-checks n (addition l e d m) = refl
+low-checks n (arc a b) = refl
+low-checks n (mark j m) = refl
+low-checks n (cut j e d) = refl
+
+-- a refusal as impossible is none of the table's
+pub not-by-table : (n : ℕ) (e : Entry) (r : Refusal) → gate (checks n e) ≡ some r → r ≡ Refused.Impossible → ⊥
+not-by-table n e r g q =
+    let below : numberOf Refused.Impossible < 8 = subst (λ x. numberOf x < 8) q (gate-low (checks n e) r (low-checks n e) g) in
+    omega arith
+
+pub not-refused : (n : ℕ) (e : Entry) (r : Refusal) → acceptance n e ≡ Answers.Refused r → ⊥
+not-refused n (addition l x d m) r q = let z : _≡_ {A = ℕ} 0 1 = cc in omega arith
+not-refused n (arc a b) r q = let z : _≡_ {A = ℕ} 0 1 = cc in omega arith
+not-refused n (mark j m) r q = let z : _≡_ {A = ℕ} 0 1 = cc in omega arith
+not-refused n (cut j x d) r q = let z : _≡_ {A = ℕ} 0 1 = cc in omega arith
+
+-- a call that was answered 8 met none of the checks 1 to 7, and the closure with its entry is a contradiction
+pub answered-impossible : (b : Board) (e : Entry) (C : Type 0) (B : Board → Type 0) (x : Entered) → Ends b e C B x
+    → x .answer ≡ Answers.Refused Refused.Impossible → (gate (checks (b .jobs) e) ≡ none) × C
+answered-impossible b e C B _ (by-table r g) q = absurd (not-by-table (b .jobs) e r g (cc))
+answered-impossible b e C B _ (impossible g c) q = (g, c)
+answered-impossible b e C B _ (accepted g c k t) q = absurd (not-refused (b .jobs) e Refused.Impossible q)

@@ -1,0 +1,62 @@
+-- A sequence of calls reaches a board by what it accepted.
+use mathlib.Core.Path.{_≡_, refl, sym, _∙_, ap, subst}
+use mathlib.Core.List.{List, [], _∷_, _++_, append-assoc, append-nil}
+use mathlib.Core.Option.{none}
+use Prim.Native.Nat.{ℕ}
+use Rattle.board.specs.declared.Board.{Board}
+use Rattle.board.specs.declared.Refusal.{Refusal}
+use Rattle.board.specs.Entries.{Entries}
+use Rattle.entries.specs.declared.Entered.{Entered}
+use Rattle.entries.specs.Entry.{Entry, addition, arc, mark, cut, entries}
+use Rattle.entries.specs.Gate.{checks, gate}
+use Rattle.entries.specs.Made.{withEntry}
+use Rattle.entries.specs.Listed.{agree-snoc, agree-sym}
+use Rattle.entries.specs.Allowed.{Allowed, gate-allows}
+use Rattle.entries.specs.Enter.{acceptance, enter}
+use Rattle.entries.specs.Reached.{Proper, Reached, proper-with, proper-agree, reached-agree, reached-counted}
+use Rattle.entries.specs.Stepped.{Step, step}
+use Rattle.entries.specs.Exact.{by-table, impossible, accepted}
+use Rattle.entries.specs.Sequence.{Call, outcome, after, kept}
+use Rattle.entries.specs.Sequence
+
+-- the board was reached by entries that passed the checks
+pub record Held (l : List Entry) (b : Board) : Type 0 where
+  pub proper : Proper (entries l)
+  pub reached : Reached (entries l) b
+
+-- an accepted entry is kept
+accepted-kept : (n : ℕ) (e : Entry) → kept (acceptance n e) e ≡ e ∷ []
+accepted-kept n (addition l x d m) = refl
+accepted-kept n (arc a b) = refl
+accepted-kept n (mark j m) = refl
+accepted-kept n (cut j x d) = refl
+
+module _ (l : List Entry) (b : Board) (h : Held l b) where
+  -- an entry that meets none of the checks is proper after the others
+  pub proper-snoc : (e : Entry) → gate (checks (b .jobs) e) ≡ none → Proper (entries (l ++ e ∷ []))
+  proper-snoc e g =
+      proper-agree (withEntry (entries l) e) (entries (l ++ e ∷ [])) (agree-sym _ _ (agree-snoc l e))
+      (proper-with (entries l) e (h .proper) (subst (λ n. Allowed n e) (h .reached .shows .count) (gate-allows (b .jobs) e g)))
+
+  one-more : (e : Entry) (x : Entered) → Step (entries l) b e x → Held (l ++ kept (x .answer) e) (x .board)
+  one-more e _ (by-table r g) = rw append-nil h
+  one-more e _ (impossible g i) =
+      rw append-nil (record { proper = h .proper; reached = reached-counted (entries l) b (h .reached) })
+  one-more e _ (accepted g c r t) =
+      rw (accepted-kept (b .jobs) e)
+      (record {
+        proper = proper-snoc e g;
+        reached = reached-agree _ _ c (agree-sym _ _ (agree-snoc l e)) r;
+      })
+
+  -- one call
+  pub called : (e : Entry) → Held (l ++ kept (enter b e .answer) e) (enter b e .board)
+  called e = one-more e (enter b e) (step (entries l) b e (h .reached))
+
+pub played : (l : List Entry) (b : Board) (cs : List Call) → Held l b → Held (l ++ Sequence.accepted b cs) (after b cs)
+unfolding Sequence.accepted after
+played l b [] h = rw append-nil h
+played l b (c ∷ cs) h =
+    let x = outcome b c in
+    rw (← append-assoc l (kept (x .answer) (c .entry)) (Sequence.accepted (x .board) cs))
+    (played (l ++ kept (x .answer) (c .entry)) (x .board) cs (called l b h (c .entry)))

@@ -1,0 +1,58 @@
+-- Demand 3 for the entry calls: one claim over any list of calls, of any sort, in any manner and with any numbers, refused
+-- ones included, from an empty board with any tally within its limit. The paper's sentence stands over each part.
+use mathlib.Core.Path.{_≡_}
+use mathlib.Core.Logic.{_↔_}
+use mathlib.Core.Bool.{true}
+use mathlib.Core.List.{List, [], _∷_, _++_, List·Memᴰ}
+use Prim.Native.Nat.{ℕ, _≤_}
+use Rattle.board.specs.declared.Board.{Board}
+use Rattle.board.specs.declared.Refusal.the-variants as Refused
+use Rattle.board.specs.View.{view}
+use Rattle.board.specs.Limits.{tallyLimit, Within, emptyBoard}
+use Rattle.board.specs.Rules.{R1}
+use Rattle.board.specs.Entries.{Entries, Least, Contradiction}
+use Rattle.board.specs.Schedules.{Placing, Schedule, Keeps}
+use Rattle.board.specs.Equality.{Same}
+use Rattle.closure.specs.Check.{passes}
+use Rattle.entries.specs.declared.Answer.the-variants as Answers
+use Rattle.entries.specs.Entry.{Entry, added, additions, entries}
+use Rattle.entries.specs.Enter.{enter}
+use Rattle.entries.specs.Exact.{Outcome}
+use Rattle.entries.specs.Sequence.{Call, outcome, after, accepted}
+
+-- "Jobs are the same if their additions name the same length, window and mark; other entries are the same if they are of
+-- one sort with the same numbers": the same jobs in the same order, and the same set of other entries.
+pub record SameEntries (l l′ : List Entry) : Type 0 where
+  pub jobs : additions l ≡ additions l′
+  pub others : (e : Entry) → added e ≡ [] → List·Memᴰ e l ↔ List·Memᴰ e l′
+
+-- the board after the calls, from an empty board with tally t
+abbrev pub finalBoard : ℕ → List Call → Board
+finalBoard t cs = after (emptyBoard t) cs
+
+-- what the calls accepted, in order
+abbrev pub acceptedBy : ℕ → List Call → List Entry
+acceptedBy t cs = accepted (emptyBoard t) cs
+
+pub record Demand (t : ℕ) (cs : List Call) : Type 1 where
+  -- the board after the calls is within its limits, passes check 0, and is the least closed board over what was accepted
+  pub within : Within (finalBoard t cs)
+  pub passes : passes (finalBoard t cs) ≡ true
+  pub least : Least (entries (acceptedBy t cs)) (finalBoard t cs)
+  -- "An entry is accepted when its call gives no refusal; whether it gives one, and which, is just as the checks of the
+  -- table say": each call among them answers, and leaves the board, as the table and the closure say
+  pub answers : (earlier later : List Call) (c : Call) → cs ≡ earlier ++ c ∷ later
+      → Outcome (entries (acceptedBy t earlier)) (finalBoard t earlier) (c .entry) (outcome (finalBoard t earlier) c)
+  -- every schedule of what was accepted keeps the shown windows, arcs and marks
+  pub nothingLost : (p : Placing) → Schedule (entries (acceptedBy t cs)) p → Keeps (view (finalBoard t cs)) p
+  -- arcs A to B and B to C with B valid, A and C live and different, show A to C
+  pub joined : R1 (view (finalBoard t cs))
+  -- of each entry answered 8 there is no schedule together with those accepted before it, and no closed board either
+  pub impossible : (earlier later : List Call) (c : Call) → cs ≡ earlier ++ c ∷ later
+      → outcome (finalBoard t earlier) c .answer ≡ Answers.Refused Refused.Impossible
+      → Contradiction (entries (acceptedBy t earlier ++ c .entry ∷ []))
+      × ((p : Placing) → Schedule (entries (acceptedBy t earlier ++ c .entry ∷ [])) p → ⊥)
+  -- the order of the calls does not matter: what accepted the same jobs in the same order and the same set of other entries
+  -- ends in an equal board, the tally aside, whatever was refused on the way and whatever the tally began with
+  pub orderless : (t′ : ℕ) (cs′ : List Call) → t′ ≤ tallyLimit → SameEntries (acceptedBy t cs) (acceptedBy t′ cs′)
+      → Same (finalBoard t cs) (finalBoard t′ cs′)

@@ -1,0 +1,133 @@
+-- Demand 3 for the entry calls holds of every list of calls, from an empty board with any tally within its limit.
+use mathlib.Core.Path.{_≡_, refl, sym, _∙_, ap, subst}
+use mathlib.Core.Logic.{_↔_}
+use mathlib.Core.Bool.{true}
+use mathlib.Core.List.{List, [], _∷_, _++_, List·Memᴰ, List·Memᴰ·not-nil}
+use mathlib.Core.Option.{Option, none, some}
+use Prim.Native.Nat.{ℕ, _≤_, _<_}
+use native.Mathlib.Omega.{arith}
+use lib.ListN.{length, getD}
+use Rattle.board.specs.declared.Board.{Board}
+use Rattle.board.specs.declared.Refusal.{Refusal}
+use Rattle.board.specs.declared.Refusal.the-variants as Refused
+use Rattle.board.specs.View.{View, Live, Arc, view}
+use Rattle.board.specs.Facts.{Fact, is-arc, Holds}
+use Rattle.board.specs.Limits.{tallyLimit, Within, emptyBoard, zeroRow}
+use Rattle.board.specs.Empty.{within-empty}
+use Rattle.board.specs.Rules.{R1}
+use Rattle.board.specs.Inference.{Infers, r1, r2, r3, r45, r6, Obeys}
+use Rattle.board.specs.RulesAgree.{obeys-rules}
+use Rattle.board.specs.Entries.{Entries, AtLeast, Least, Contradiction, Drawn, drawn, _⊑_}
+use Rattle.board.specs.Leastness.{Below, Impossible, impossible-contradiction}
+use Rattle.board.specs.Schedules.{Placing, Schedule, Keeps}
+use Rattle.board.specs.ScheduledShows.{every-schedule-keeps, no-schedule}
+use Rattle.board.specs.Equality.{Same, same-boards}
+use Rattle.closure.specs.Check.{passes}
+use Rattle.closure.specs.Checked.{obeys-passes}
+use Rattle.entries.specs.declared.Answer.{Answer}
+use Rattle.entries.specs.declared.Answer.the-variants as Answers
+use Rattle.entries.specs.declared.Entered.{Entered}
+use Rattle.entries.specs.Entry.{Entry, addition, arc, mark, cut, added, stated, additions, Stated, entries}
+use Rattle.entries.specs.Gate.{checks, gate}
+use Rattle.entries.specs.Enter.{acceptance, enter}
+use Rattle.entries.specs.Answered.{answered-impossible}
+use Rattle.entries.specs.Made.{withEntry}
+use Rattle.entries.specs.Listed.{Agree, agree-sym, agree-snoc, agreed}
+use Rattle.entries.specs.Reached.{Proper, Reached}
+use Rattle.entries.specs.Stepped.{Step, step, outcome, reached-least}
+use Rattle.entries.specs.Played.{Held, proper-snoc, played}
+use Rattle.entries.specs.Sequence.{Call, after}
+use Rattle.promises.specs.Demand.{SameEntries, finalBoard, acceptedBy, Demand}
+
+-- a view without jobs infers nothing
+no-inference : (v : View) → v .jobs ≡ 0 → (f : Fact) → Infers v f → Holds v f
+no-inference v empty _ (r1 a b c la vb lc ne ab bc) = absurd (omega (arith, empty, la .0))
+no-inference v empty _ (r2 a b va lb ab ba) = absurd (omega (arith, empty, lb .0))
+no-inference v empty _ (r3 a b la lb ne h) = absurd (omega (arith, empty, la .0))
+no-inference v empty _ (r45 s j S m lj p) = absurd (omega (arith, empty, lj .0))
+no-inference v empty _ (r6 j lj h) = absurd (omega (arith, empty, lj .0))
+
+nothing-stated : (f : Fact) → Stated [] f → ⊥
+nothing-stated f s = List·Memᴰ·not-nil (s .made)
+
+module _ (t : ℕ) (fits : t ≤ tallyLimit) where
+  -- an empty board is reached by no entries
+  held-empty : Held [] (emptyBoard t)
+  unfolding additions
+  held-empty =
+      record {
+        proper = record { positive = λ j l. absurd (omega arith); about = λ f s. absurd (nothing-stated f s) };
+        reached =
+            record {
+              within = empty;
+              shows =
+                  record {
+                    count = refl;
+                    atLeast = record { jobs = omega arith; rows = λ k l. absurd (omega arith); facts = λ f s. absurd (nothing-stated f s) };
+                  };
+              obeys = no-inference (view (emptyBoard t)) refl;
+              below = λ w h ob. record { jobs = omega arith; rows = λ k l. absurd (omega arith); facts = undrawn w };
+            };
+      }
+    where
+      empty : Within (emptyBoard t)
+      empty = within-empty t fits
+
+      undrawn : (w : View) (f : Fact) → Drawn (view (emptyBoard t)) f → Holds w f
+      undrawn w _ (drawn i k a) = absurd (omega (arith, empty .arcs i k a .0 .0))
+
+  -- the board after the calls is reached by what they accepted
+  held : (cs : List Call) → Held (acceptedBy t cs) (finalBoard t cs)
+  held cs = played [] (emptyBoard t) cs held-empty
+
+  -- of an entry answered 8, no board is closed over it and those accepted before it, and it has no schedule with them
+  contradicted : (cs : List Call) (e : Entry) → enter (finalBoard t cs) e .answer ≡ Answers.Refused Refused.Impossible
+      → Contradiction (entries (acceptedBy t cs ++ e ∷ [])) × ((p : Placing) → Schedule (entries (acceptedBy t cs ++ e ∷ [])) p → ⊥)
+  contradicted cs e q =
+      let h = held cs in
+      let l = acceptedBy t cs in
+      let b = finalBoard t cs in
+      let (g, i) = answered-impossible b e _ _ (enter b e) (step (entries l) b e (h .reached)) q in
+      let i′ : Impossible (entries (l ++ e ∷ [])) = λ w a. i w (agreed _ _ w (agree-snoc l e) a) in
+      let proper = proper-snoc l b h e g in
+      (impossible-contradiction _ i′, no-schedule _ (proper .positive) (proper .about) i′)
+
+-- an entry that states a fact adds no job
+no-job : (e : Entry) (f : Fact) → List·Memᴰ f (stated e) → added e ≡ []
+no-job (addition l x d m) f i = absurd (List·Memᴰ·not-nil i)
+no-job (arc a b) f i = refl
+no-job (mark j m) f i = refl
+no-job (cut j x d) f i = refl
+
+-- the same jobs in the same order and the same set of other entries ask the same of a board
+same-agree : (l l′ : List Entry) → SameEntries l l′ → Agree (entries l) (entries l′)
+same-agree l l′ s =
+    record {
+      jobs = ap length (s .jobs);
+      rows = λ k i. ap (λ rs. getD rs k (zeroRow 0)) (s .jobs);
+      to = λ f x. moved f x (λ e o. s .others e o .0);
+      from = λ f x. moved f x (λ e o. s .others e o .1);
+    }
+  where
+    moved : {l l′ : List Entry} (f : Fact) → Stated l f → ((e : Entry) → added e ≡ [] → List·Memᴰ e l → List·Memᴰ e l′) → Stated l′ f
+    moved f x to = record { entry = x .entry; made = to (x .entry) (no-job (x .entry) f (x .states)) (x .made); states = x .states }
+
+pub demand : (t : ℕ) → t ≤ tallyLimit → (cs : List Call) → Demand t cs
+demand t fits cs =
+    let h = held t fits cs in
+    let r = h .reached in
+    record {
+      within = r .within;
+      passes = obeys-passes (finalBoard t cs) (r .within) (r .obeys);
+      least = reached-least _ _ r;
+      answers = λ earlier later c is. outcome _ _ (c .entry) (held t fits earlier .reached);
+      nothingLost = every-schedule-keeps _ _ (h .proper .positive) (h .proper .about) (r .shows .count) (r .below);
+      joined = obeys-rules _ (r .obeys) .join;
+      impossible = λ earlier later c is. contradicted t fits earlier (c .entry);
+      orderless = λ t′ cs′ fits′ same.
+          let a = same-agree (acceptedBy t cs) (acceptedBy t′ cs′) same in
+          let r′ = held t′ fits′ cs′ .reached in
+          same-boards _ _ (r .within) (r′ .within)
+          (r .below _ (agreed _ _ _ (agree-sym _ _ a) (r′ .shows .atLeast)) (r′ .obeys))
+          (r′ .below _ (agreed _ _ _ a (r .shows .atLeast)) (r .obeys));
+    }

@@ -1,0 +1,4 @@
+-- What the board promises.
+pub mod Examples
+pub mod Demand
+pub mod DemandHolds

@@ -1,0 +1,1 @@
+// What the board promises: no code of its own.
