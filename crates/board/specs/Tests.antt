@@ -1,49 +1,6 @@
--- The tests of live and of valid, as the code makes them, and what they decide.
-use mathlib.Core.Path.{_≡_, refl}
-use mathlib.Core.Bool.{Bool, true, false, not, _&&_}
-use Prim.Native.Nat.{ℕ}
-use native.Mathlib.Omega.{arith}
-use lib.Dec.{eqb, ltb}
-use borrow.Author.Tests.{ltb-true, lt-ltb, eqb-true, eq-eqb, eqb-false, ne-eqb, not-true}
-use Rattle.board.specs.View.{View, Live, Valid}
-
-unfoldable pub live : View → ℕ → Bool
-live v j = ltb j (v .jobs) && not (eqb (v .row j .mark) 2)
-
-unfoldable pub valid : View → ℕ → Bool
-valid v j = ltb j (v .jobs) && eqb (v .row j .mark) 1
-
-pub and-parts : (a b : Bool) → (a && b) ≡ true → (a ≡ true) × (b ≡ true)
-and-parts true b e = (refl, e)
-and-parts false b e = let z : _≡_ {A = ℕ} 0 1 = cc in absurd (omega arith)
-
-pub and-both : (a b : Bool) → a ≡ true → b ≡ true → (a && b) ≡ true
-and-both a b p q = rw (p, q)
-
--- a test that failed was not true
-pub refuted : {t : Bool} → t ≡ false → t ≡ true → ⊥
-refuted {t} p q = let z : _≡_ {A = ℕ} 0 1 = cc in omega arith
-
-module _ (v : View) (j : ℕ) where
-  pub live-yes : live v j ≡ true → Live v j
-  unfolding live
-  live-yes e =
-      let (l, m) = and-parts (ltb j (v .jobs)) (not (eqb (v .row j .mark) 2)) e in
-      (ltb-true j (v .jobs) l, eqb-false (v .row j .mark) 2 (not-true _ m))
-
-  pub live-show : Live v j → live v j ≡ true
-  unfolding live
-  live-show (l, m) = rw (lt-ltb j (v .jobs) l, ne-eqb (v .row j .mark) 2 m)
-
-  pub live-no : live v j ≡ false → Live v j → ⊥
-  live-no e h = refuted e (live-show h)
-
-  pub valid-yes : valid v j ≡ true → Valid v j
-  unfolding valid
-  valid-yes e =
-      let (l, m) = and-parts (ltb j (v .jobs)) (eqb (v .row j .mark) 1) e in
-      (ltb-true j (v .jobs) l, eqb-true (v .row j .mark) 1 m)
-
-  pub valid-show : Valid v j → valid v j ≡ true
-  unfolding valid
-  valid-show (l, m) = rw (lt-ltb j (v .jobs) l, eq-eqb (v .row j .mark) 1 m)
+-- Boolean tests of a board, and what they decide.
+pub mod Live
+pub mod Decides
+pub mod Limits
+pub mod LimitsDecided
+pub mod Empty

@@ -1,7 +1,7 @@
 // The board of one dock as a struct by value, with the limits that belong to its type, and the refusals of the gate.
 ghost use mathlib.Core.Path.{_≡_};
-ghost use Rattle.board.specs.Limits.{emptyBoard};
-ghost use Rattle.board.specs.Refusals.{numberOf};
+ghost use Rattle.board.specs.Paper.Limits.{emptyBoard};
+ghost use Rattle.board.specs.Paper.Refusals.{numberOf};
 
 // A place k below `jobs` is job k. A place without a job holds 0 in everything. Bit k of `after[i]` is the arc from i to k,
 // and bit i of `before[k]` is the same arc, kept a second time so that either set is one word.

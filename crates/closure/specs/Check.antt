@@ -3,9 +3,9 @@
 use mathlib.Core.Bool.{Bool, true, false, _&&_}
 use mathlib.Core.Option.{Option, none, some}
 use Rattle.board.specs.declared.Board.{Board}
-use Rattle.board.specs.View.{View, view}
-use Rattle.board.specs.LimitsTest.{withinLimits}
-use Rattle.board.specs.Facts.{Fact}
+use Rattle.board.specs.Paper.View.{view}
+use Rattle.board.specs.Tests.Limits.{withinLimits}
+use Rattle.board.specs.Paper.Facts.{Fact}
 use Rattle.closure.specs.Find.{find}
 
 -- nothing is left to infer

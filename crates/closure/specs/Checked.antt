@@ -1,20 +1,19 @@
 -- The test of check 0 holds exactly of the boards within the limits that are closed over what they show.
 use mathlib.Core.Path.{_≡_, refl}
 use mathlib.Core.Logic.{_↔_}
-use mathlib.Core.Bool.{Bool, true, false}
+use mathlib.Core.Bool.{true}
 use mathlib.Core.Option.{Option, none, some}
-use Prim.Native.Nat.{ℕ}
 use Rattle.board.specs.declared.Board.{Board}
-use Rattle.board.specs.View.{view}
-use Rattle.board.specs.Facts.{Fact}
-use Rattle.board.specs.Inference.{Obeys}
-use Rattle.board.specs.Limits.{Within}
-use Rattle.board.specs.LimitsTest.{withinLimits}
-use Rattle.board.specs.LimitsDecided.{limits-yes, limits-show}
-use Rattle.board.specs.Tests.{and-parts, and-both, refuted}
-use Rattle.board.specs.Entries.{Closed, Least, shown}
-use Rattle.board.specs.Leastness.{handed-in}
-use Rattle.board.specs.RulesAgree.{obeys-rules, rules-obey}
+use Rattle.board.specs.Paper.View.{view}
+use Rattle.board.specs.Paper.Facts.{Fact}
+use Rattle.board.specs.Inference.Infers.{Obeys}
+use Rattle.board.specs.Paper.Limits.{Within}
+use Rattle.board.specs.Tests.Limits.{withinLimits}
+use Rattle.board.specs.Tests.LimitsDecided.{limits-yes, limits-show}
+use Rattle.board.specs.Tests.Live.{and-parts, and-both, refuted}
+use Rattle.board.specs.Paper.Entries.{Closed, Least, shown}
+use Rattle.board.specs.Order.Leastness.{handed-in}
+use Rattle.board.specs.Inference.Agrees.{obeys-rules, rules-obey}
 use Rattle.closure.specs.Find.{find}
 use Rattle.closure.specs.FindSound.{find-sound}
 use Rattle.closure.specs.FindComplete.{find-complete}

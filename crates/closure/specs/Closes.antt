@@ -1,22 +1,22 @@
 -- The computed closure ends, and gives the least board above b that obeys the rules, or there is none.
-use mathlib.Core.Path.{_≡_, refl, sym, _∙_}
+use mathlib.Core.Path.{_≡_, refl, _∙_}
 use mathlib.Core.Option.{Option, none, some}
-use Prim.Native.Nat.{ℕ, zero, suc, _≤_, _<_}
+use Prim.Native.Nat.{ℕ, zero, suc, _<_}
 use native.Mathlib.Omega.{arith}
 use lib.IntN.{pos}
 use lib.Signed.{_≤ℤ_}
 use Rattle.minutes.specs.Linear.{whole}
 use Rattle.board.specs.declared.Board.{Board}
-use Rattle.board.specs.View.{View, Live, Valid, view}
-use Rattle.board.specs.Facts.{Fact, is-arc, is-bound, is-valid, is-invalid, Holds, Known}
-use Rattle.board.specs.Inference.{Infers, Obeys}
-use Rattle.board.specs.Entries.{_⊑_}
-use Rattle.board.specs.Limits.{Within}
-use Rattle.board.specs.Order.{⊑-trans}
-use Rattle.board.specs.Forced.{forced, valid-live}
-use Rattle.board.specs.Extension.{above-self, Above, Extended, Updated}
-use Rattle.board.specs.Updates.{update}
-use Rattle.board.specs.Updated.{updated}
+use Rattle.board.specs.Paper.View.{View, Valid, view}
+use Rattle.board.specs.Paper.Facts.{Fact, Holds}
+use Rattle.board.specs.Inference.Infers.{Infers, Obeys}
+use Rattle.board.specs.Paper.Entries.{_⊑_}
+use Rattle.board.specs.Paper.Limits.{Within}
+use Rattle.board.specs.Order.Laws.{⊑-trans}
+use Rattle.board.specs.Inference.Forced.{forced, valid-live}
+use Rattle.board.specs.Update.Extension.{above-self, Above, Extended, Updated}
+use Rattle.board.specs.Update.Updates.{update}
+use Rattle.board.specs.Update.Updated.{updated}
 use Rattle.closure.specs.Find.{find}
 use Rattle.closure.specs.FindSound.{find-sound, infers-known}
 use Rattle.closure.specs.FindComplete.{find-complete}

@@ -1,12 +1,10 @@
 -- The closure: the rules applied until nothing is left to infer, or a mark would have to change.
-use mathlib.Core.Path.{_≡_}
-use mathlib.Core.Bool.{Bool}
 use mathlib.Core.Option.{Option, none, some}
 use Prim.Native.Nat.{ℕ, zero, suc, _+_, _*_}
 use Rattle.board.specs.declared.Board.{Board}
-use Rattle.board.specs.View.{View, view}
-use Rattle.board.specs.Limits.{jobLimit}
-use Rattle.board.specs.Updates.{update}
+use Rattle.board.specs.Paper.View.{view}
+use Rattle.board.specs.Paper.Limits.{jobLimit}
+use Rattle.board.specs.Update.Updates.{update}
 use Rattle.closure.specs.Find.{find}
 
 -- Each inference uses up a minute of a window, an arc or a live job, so that there are never more steps than this.

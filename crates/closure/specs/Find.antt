@@ -5,10 +5,10 @@ use Prim.Native.Nat.{ℕ, zero, suc}
 use lib.Dec.{eqb}
 use lib.IntN.{ℤ, _+ℤ_}
 use lib.Signed.{leZ, ltZ}
-use Rattle.board.specs.View.{View, Side, early, late, bound}
-use Rattle.board.specs.Facts.{Fact, is-arc, is-bound, is-valid, is-invalid}
-use Rattle.board.specs.Rules.{energy}
-use Rattle.board.specs.Tests.{live, valid}
+use Rattle.board.specs.Paper.View.{View, Side, early, late, bound}
+use Rattle.board.specs.Paper.Facts.{Fact, is-arc, is-bound, is-invalid}
+use Rattle.board.specs.Paper.Rules.{energy}
+use Rattle.board.specs.Tests.Live.{live, valid}
 
 -- the fact, where the test holds
 unfoldable pub guard : Bool → Fact → Option Fact

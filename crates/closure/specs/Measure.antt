@@ -11,13 +11,13 @@ use borrow.Author.Tests.{not-true}
 use Rattle.minutes.specs.Linear.{whole, above, below, plus, minus, is-false}
 use Rattle.minutes.specs.Sum.{count, count-mono, count-falls, count-bound}
 use Rattle.board.specs.declared.Board.{Board}
-use Rattle.board.specs.View.{Row, View, Live, Invalid, Side, early, late, bound, view, rowOf, arcOf}
-use Rattle.board.specs.Facts.{Fact, is-arc, is-bound, Holds}
-use Rattle.board.specs.Inference.{Infers, r1, r2, r3, r45, r6}
-use Rattle.board.specs.Limits.{IsTime, Fits, Within, jobLimit}
-use Rattle.board.specs.Order.{live-down, arc-up, bound-up}
-use Rattle.board.specs.Extension.{Above}
-use Rattle.board.specs.Tests.{live, live-yes, live-show, refuted}
+use Rattle.board.specs.Paper.View.{Row, View, Live, Invalid, Side, early, late, bound, view, rowOf, arcOf}
+use Rattle.board.specs.Paper.Facts.{Fact, is-arc, is-bound, Holds}
+use Rattle.board.specs.Inference.Infers.{Infers, r1, r2, r3, r45, r6}
+use Rattle.board.specs.Paper.Limits.{IsTime, Fits, Within, jobLimit}
+use Rattle.board.specs.Order.Laws.{live-down, arc-up, bound-up}
+use Rattle.board.specs.Update.Extension.{Above}
+use Rattle.board.specs.Tests.Live.{live, live-yes, live-show, refuted}
 use Rattle.closure.specs.Closing.{steps}
 use Rattle.closure.specs.Search.{given}
 

@@ -7,8 +7,8 @@ use mathlib.Core.Option.{Option, none, some}
 use Prim.Native.Nat.{ℕ, zero, suc, _<_}
 use native.Mathlib.Omega.{arith}
 use borrow.Author.Count.{below-more}
-use Rattle.board.specs.Facts.{Fact}
-use Rattle.board.specs.Tests.{refuted}
+use Rattle.board.specs.Paper.Facts.{Fact}
+use Rattle.board.specs.Tests.Live.{refuted}
 use Rattle.closure.specs.Find.{guard, _orElse_, first, any}
 
 -- `tests a (b ∷ c ∷ [])` is `a && b && c`

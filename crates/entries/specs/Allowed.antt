@@ -1,25 +1,25 @@
 -- What an entry that meets no refusal of the table says, in the paper's words.
 use mathlib.Core.Path.{_≡_, refl, sym, subst}
 use mathlib.Core.Logic.{_≢_, ⊎-elim}
-use mathlib.Core.Bool.{Bool, true, false, not, cond, _&&_}
-use mathlib.Core.List.{List, [], _∷_, List·Memᴰ, List·Memᴰ·not-nil, List·Memᴰ·cases-cons, List·Memᴰ·eq-of-singleton}
+use mathlib.Core.Bool.{Bool, true, false, not, cond}
+use mathlib.Core.List.{List, _∷_, List·Memᴰ, List·Memᴰ·not-nil, List·Memᴰ·cases-cons, List·Memᴰ·eq-of-singleton}
 use mathlib.Core.Option.{Option, none, some}
-use Prim.Native.Nat.{ℕ, suc, _<_, _≤_}
+use Prim.Native.Nat.{ℕ, _<_, _≤_}
 use native.Mathlib.Omega.{arith}
-use lib.Dec.{leb, eqb}
+use lib.Dec.{eqb}
 use lib.IntN.{ℤ, pos, negsuc}
-use lib.Signed.{leZ, ltZ, _≤ℤ_, _<ℤ_}
+use lib.Signed.{leZ, ltZ}
 use borrow.Author.Tests.{leb-false, not-false}
 use Rattle.minutes.specs.Linear.{whole, below}
 use Rattle.board.specs.declared.Refusal.{Refusal}
-use Rattle.board.specs.View.{Side}
-use Rattle.board.specs.Facts.{Fact, is-bound, is-valid, is-invalid, Known}
-use Rattle.board.specs.Limits.{IsTime, Fits, jobLimit}
-use Rattle.board.specs.Tests.{and-parts, refuted}
-use Rattle.board.specs.Decides.{Decides, _and_}
-use Rattle.board.specs.LimitsDecided.{decides-between, decides-time, decides-length}
-use Rattle.entries.specs.Entry.{Entry, addition, arc, mark, cut, number, addedRow, stated}
-use Rattle.entries.specs.Gate.{Check, isJob, checks, gate}
+use Rattle.board.specs.Paper.View.{Side}
+use Rattle.board.specs.Paper.Facts.{Fact, is-bound, is-valid, is-invalid, Known}
+use Rattle.board.specs.Paper.Limits.{IsTime, Fits, jobLimit}
+use Rattle.board.specs.Tests.Live.{and-parts, refuted}
+use Rattle.board.specs.Tests.Decides.{Decides, _and_}
+use Rattle.board.specs.Tests.LimitsDecided.{decides-between, decides-time, decides-length}
+use Rattle.entries.specs.Paper.Entry.{Entry, addition, arc, mark, cut, number, addedRow, stated}
+use Rattle.entries.specs.Paper.Gate.{Check, isJob, checks, gate}
 
 -- the entry is one that a board of n jobs can take
 abbrev pub Allowed : ℕ → Entry → Type 0

@@ -10,15 +10,14 @@ use borrow.Author.Tests.{ltb-true}
 use Rattle.board.specs.declared.Board.{Board}
 use Rattle.board.specs.declared.Refusal.{Refusal}
 use Rattle.board.specs.declared.Refusal.the-variants as Refused
-use Rattle.board.specs.Refusals.{numberOf}
-use Rattle.board.specs.Tests.{and-parts}
-use Rattle.entries.specs.declared.Answer.{Answer}
+use Rattle.board.specs.Paper.Refusals.{numberOf}
+use Rattle.board.specs.Tests.Live.{and-parts}
 use Rattle.entries.specs.declared.Answer.the-variants as Answers
 use Rattle.entries.specs.declared.Entered.{Entered}
-use Rattle.entries.specs.Entry.{Entry, addition, arc, mark, cut}
-use Rattle.entries.specs.Gate.{Check, checks, gate}
-use Rattle.entries.specs.Enter.{acceptance}
-use Rattle.entries.specs.Exact.{Ends, by-table, impossible, accepted}
+use Rattle.entries.specs.Paper.Entry.{Entry, addition, arc, mark, cut}
+use Rattle.entries.specs.Paper.Gate.{Check, checks, gate}
+use Rattle.entries.specs.Paper.Enter.{acceptance}
+use Rattle.entries.specs.Paper.Exact.{Ends, by-table, impossible, accepted}
 
 -- every line's number is below 8
 low : List Check → Bool

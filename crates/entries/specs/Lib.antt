@@ -1,14 +1,7 @@
 -- Entries, the checks of the table, and `enter`: what each entry call answers and the board after it.
-
--- definitions: what a reader must believe
-pub mod Entry
-pub mod Gate
-pub mod Enter
-pub mod Looking
-pub mod Sequence
-pub mod Made
-pub mod Exact
+pub mod Paper
 -- that `enter` is exact, call by call and over a sequence
+pub mod Made
 pub mod Listed
 pub mod Allowed
 pub mod Raw

@@ -1,21 +1,20 @@
 -- Entries of a list depend on its additions in order and on the set of the others; one more at its end is one more entry.
 use mathlib.Core.Path.{_≡_, refl, sym, _∙_, ap, subst}
 use mathlib.Core.Logic.{_⊎_, inl, inr, ⊎-elim}
-use mathlib.Core.Bool.{Bool, true, false, cond}
+use mathlib.Core.Bool.{cond}
 use mathlib.Core.List.{List, [], _∷_, _++_, append-assoc, append-nil, List·Memᴰ, List·Memᴰ·head, List·Memᴰ·append-cases, Memᴰ·append-left, Memᴰ·append-right, List·Memᴰ·eq-of-singleton, List·Memᴰ·not-nil}
-use Prim.Native.Nat.{ℕ, zero, suc, _+_, _<_, _≤_}
+use Prim.Native.Nat.{ℕ, suc, _<_}
 use native.Mathlib.Omega.{arith}
 use native.Mathlib.Decide.{ℕ-discrete}
 use lib.Dec.{eqb}
 use lib.ListN.{length, getD, length-append, List·getD-append}
 use lib.Seq.{getD-append-seam}
 use borrow.Author.Tests.{eq-eqb, ne-eqb}
-use Rattle.board.specs.View.{Row, View}
-use Rattle.board.specs.Facts.{Fact, Holds}
-use Rattle.board.specs.Entries.{Entries, Shown, AtLeast}
-use Rattle.board.specs.Limits.{zeroRow}
-use Rattle.entries.specs.Entry.{Entry, addition, arc, mark, cut, addedRow, added, stated, additions, Stated, entries}
-use Rattle.entries.specs.Made.{stating, withEntry}
+use Rattle.board.specs.Paper.View.{Row, View}
+use Rattle.board.specs.Paper.Facts.{Fact}
+use Rattle.board.specs.Paper.Entries.{Entries, Shown, AtLeast}
+use Rattle.board.specs.Paper.Limits.{zeroRow}
+use Rattle.entries.specs.Paper.Entry.{Entry, addition, arc, mark, cut, addedRow, added, stated, additions, Stated, entries, stating, withEntry}
 
 -- entries that agree in jobs, rows and facts ask the same of a view
 pub record Agree (es es′ : Entries) : Type 0 where

@@ -1,20 +1,18 @@
 -- Entries made after others: what they add to what has to be shown.
 use mathlib.Core.Path.{_≡_, refl, sym, ap, subst, subst⁻¹}
-use mathlib.Core.Logic.{_⊎_, inl, inr, ⊎-elim}
-use mathlib.Core.Bool.{Bool, true, false, cond}
-use mathlib.Core.List.{List, [], _∷_, List·Memᴰ, List·Memᴰ·head, List·Memᴰ·not-nil, List·Memᴰ·eq-of-singleton}
-use Prim.Native.Nat.{ℕ, zero, suc, _+_, _<_, _≤_}
+use mathlib.Core.Logic.{inl, inr, ⊎-elim}
+use mathlib.Core.Bool.{cond}
+use mathlib.Core.List.{List, [], List·Memᴰ, List·Memᴰ·head, List·Memᴰ·not-nil, List·Memᴰ·eq-of-singleton}
+use Prim.Native.Nat.{ℕ, suc, _<_}
 use native.Mathlib.Omega.{arith}
 use native.Mathlib.Decide.{ℕ-discrete}
 use lib.Dec.{eqb}
-use lib.IntN.{ℤ}
-use lib.ListN.{length, getD}
 use borrow.Author.Tests.{eq-eqb, ne-eqb}
-use Rattle.board.specs.View.{Row, View}
-use Rattle.board.specs.Facts.{Fact, Holds}
-use Rattle.board.specs.Entries.{Entries, Shown, AtLeast, _⊑_}
-use Rattle.board.specs.Order.{shown-trans, holds-up, below-up}
-use Rattle.entries.specs.Entry.{Entry, addition, arc, mark, cut, addedRow, added, stated}
+use Rattle.board.specs.Paper.View.{Row, View}
+use Rattle.board.specs.Paper.Facts.{Fact, Holds}
+use Rattle.board.specs.Paper.Entries.{Entries, Shown, AtLeast, _⊑_}
+use Rattle.board.specs.Order.Laws.{shown-trans, holds-up, below-up}
+use Rattle.entries.specs.Paper.Entry.{Entry, addition, arc, mark, cut, addedRow, added, stated, addRow, stating, withEntry}
 
 -- a view shows the entry, made on a board of n jobs: the row that it adds at place n, and the facts that it states
 pub record ShowsEntry (n : ℕ) (e : Entry) (w : View) : Type 0 where
@@ -27,21 +25,6 @@ entry-up n e v w up h =
       rows = λ r m. (below-up v w up n (h .rows r m .0), shown-trans (h .rows r m .1) (up .rows n (h .rows r m .0)));
       facts = λ f m. holds-up v w up f (h .facts f m);
     }
-
--- a job added after the others
-abbrev pub addRow : Entries → Row → Entries
-addRow es r = record { jobs = suc (es .jobs); row = λ k. cond (eqb k (es .jobs)) r (es .row k); facts = es .facts }
-
--- facts stated of the jobs added
-abbrev pub stating : Entries → List Fact → Entries
-stating es fs = record { jobs = es .jobs; row = es .row; facts = λ f. es .facts f ⊎ List·Memᴰ f fs }
-
--- the entries with one more
-abbrev pub withEntry : Entries → Entry → Entries
-withEntry es (addition l e d m) = addRow es (addedRow l e d m)
-withEntry es (arc a b) = stating es (stated (arc a b))
-withEntry es (mark j m) = stating es (stated (mark j m))
-withEntry es (cut j e d) = stating es (stated (cut j e d))
 
 module _ (es : Entries) (w : View) where
   split-row : (r : Row) → AtLeast (addRow es r) w → AtLeast es w × (es .jobs < w .jobs) × Shown r (w .row (es .jobs))

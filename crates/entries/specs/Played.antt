@@ -1,23 +1,20 @@
 -- A sequence of calls reaches a board by what it accepted.
-use mathlib.Core.Path.{_≡_, refl, sym, _∙_, ap, subst}
+use mathlib.Core.Path.{_≡_, refl, subst}
 use mathlib.Core.List.{List, [], _∷_, _++_, append-assoc, append-nil}
 use mathlib.Core.Option.{none}
 use Prim.Native.Nat.{ℕ}
 use Rattle.board.specs.declared.Board.{Board}
-use Rattle.board.specs.declared.Refusal.{Refusal}
-use Rattle.board.specs.Entries.{Entries}
 use Rattle.entries.specs.declared.Entered.{Entered}
-use Rattle.entries.specs.Entry.{Entry, addition, arc, mark, cut, entries}
-use Rattle.entries.specs.Gate.{checks, gate}
-use Rattle.entries.specs.Made.{withEntry}
+use Rattle.entries.specs.Paper.Entry.{Entry, addition, arc, mark, cut, entries, withEntry}
+use Rattle.entries.specs.Paper.Gate.{checks, gate}
 use Rattle.entries.specs.Listed.{agree-snoc, agree-sym}
 use Rattle.entries.specs.Allowed.{Allowed, gate-allows}
-use Rattle.entries.specs.Enter.{acceptance, enter}
+use Rattle.entries.specs.Paper.Enter.{acceptance, enter}
 use Rattle.entries.specs.Reached.{Proper, Reached, proper-with, proper-agree, reached-agree, reached-counted}
 use Rattle.entries.specs.Stepped.{Step, step}
-use Rattle.entries.specs.Exact.{by-table, impossible, accepted}
-use Rattle.entries.specs.Sequence.{Call, outcome, after, kept}
-use Rattle.entries.specs.Sequence
+use Rattle.entries.specs.Paper.Exact.{by-table, impossible, accepted}
+use Rattle.entries.specs.Paper.Sequence.{Call, outcome, after, kept}
+use Rattle.entries.specs.Paper.Sequence
 
 -- the board was reached by entries that passed the checks
 pub record Held (l : List Entry) (b : Board) : Type 0 where

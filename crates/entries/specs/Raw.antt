@@ -1,27 +1,25 @@
 -- The raw entry: the least board above b that shows the entry, nothing inferred yet.
 use mathlib.Core.Path.{_≡_, refl, sym, _∙_, subst, subst⁻¹}
 use mathlib.Core.Logic.{⊎-elim}
-use mathlib.Core.Bool.{Bool, true, false, cond}
 use mathlib.Core.List.{List, [], _∷_, List·Memᴰ, List·Memᴰ·head, List·Memᴰ·tail, List·Memᴰ·not-nil, List·Memᴰ·cases-cons, List·Memᴰ·eq-of-singleton}
 use mathlib.Core.Option.{Option, none, some}
-use Prim.Native.Nat.{ℕ, suc, _<_, _≤_}
+use Prim.Native.Nat.{ℕ}
 use native.Mathlib.Omega.{arith}
-use lib.Dec.{eqb}
 use Rattle.board.specs.declared.Board.{Board}
-use Rattle.board.specs.View.{View, Row, view, rowOf}
-use Rattle.board.specs.Facts.{Fact, is-arc, is-bound, is-valid, is-invalid, Holds, Known}
-use Rattle.board.specs.Inference.{Obeys}
-use Rattle.board.specs.Entries.{Shown, shown, _⊑_}
-use Rattle.board.specs.Limits.{Within, Fits, jobLimit}
-use Rattle.board.specs.Order.{⊑-trans, holds-up, shown-refl}
-use Rattle.board.specs.Extension.{above-self, Above, Extended, Updated}
-use Rattle.board.specs.Updates.{update, append}
-use Rattle.board.specs.Updated.{updated}
-use Rattle.board.specs.Appended.{appended}
-use Rattle.entries.specs.Entry.{Entry, addition, arc, mark, cut, number, addedRow, added, stated}
-use Rattle.entries.specs.Made.{ShowsEntry, withEntry, shows-facts}
+use Rattle.board.specs.Paper.View.{View, view, rowOf}
+use Rattle.board.specs.Paper.Facts.{Fact, Holds, Known}
+use Rattle.board.specs.Inference.Infers.{Obeys}
+use Rattle.board.specs.Paper.Entries.{Shown, shown, _⊑_}
+use Rattle.board.specs.Paper.Limits.{Within}
+use Rattle.board.specs.Order.Laws.{⊑-trans, holds-up, shown-refl}
+use Rattle.board.specs.Update.Extension.{above-self, Above, Extended, Updated}
+use Rattle.board.specs.Update.Updates.{update, append}
+use Rattle.board.specs.Update.Updated.{updated}
+use Rattle.board.specs.Update.Appended.{appended}
+use Rattle.entries.specs.Paper.Entry.{Entry, addition, arc, mark, cut, addedRow, added, stated, withEntry}
+use Rattle.entries.specs.Made.{ShowsEntry, shows-facts}
 use Rattle.entries.specs.Allowed.{Allowed, allowed-known}
-use Rattle.entries.specs.Enter.{appendAll, updateAll, raw}
+use Rattle.entries.specs.Paper.Enter.{appendAll, updateAll, raw}
 
 -- facts that hold one and all
 abbrev pub HoldAll : View → List Fact → Type 0

@@ -1,11 +1,11 @@
 -- A board reached by entries: within its limits, and the least one over them that obeys the rules. Each accepted entry
 -- leads to such a board again, and an entry refused as impossible leaves none that shows it.
-use mathlib.Core.Path.{_≡_, refl, sym, _∙_, ap, subst, subst⁻¹}
-use mathlib.Core.Logic.{_≢_, _⊎_, inl, inr, ⊎-elim}
-use mathlib.Core.Bool.{Bool, true, false, cond}
+use mathlib.Core.Path.{_≡_, _∙_, subst, subst⁻¹}
+use mathlib.Core.Logic.{_≢_, ⊎-elim}
+use mathlib.Core.Bool.{cond}
 use mathlib.Core.List.{List, List·Memᴰ}
-use mathlib.Core.Option.{Option, none, some}
-use Prim.Native.Nat.{ℕ, suc, _<_, _≤_}
+use mathlib.Core.Option.{none}
+use Prim.Native.Nat.{ℕ, suc, _<_}
 use native.Mathlib.Omega.{arith}
 use native.Mathlib.Decide.{ℕ-discrete}
 use lib.Dec.{eqb}
@@ -13,19 +13,19 @@ use lib.IntN.{pos}
 use lib.Signed.{_≤ℤ_}
 use borrow.Author.Tests.{eq-eqb, ne-eqb}
 use Rattle.board.specs.declared.Board.{Board}
-use Rattle.board.specs.View.{Row, View, view}
-use Rattle.board.specs.Facts.{Fact, is-arc, is-bound, is-valid, is-invalid, Known}
-use Rattle.board.specs.Inference.{Obeys}
-use Rattle.board.specs.Entries.{Entries, AtLeast, Shows, shown}
-use Rattle.board.specs.Limits.{Within, Fits}
-use Rattle.board.specs.Leastness.{Below, Impossible}
-use Rattle.board.specs.Order.{atLeast-up}
-use Rattle.board.specs.Scheduled.{Positive, AboutAdded}
-use Rattle.entries.specs.Entry.{Entry, addition, arc, mark, cut, addedRow, stated}
-use Rattle.entries.specs.Made.{ShowsEntry, addRow, stating, withEntry, with-split, with-join, with-jobs}
+use Rattle.board.specs.Paper.View.{Row, View, view}
+use Rattle.board.specs.Paper.Facts.{Fact, is-arc, is-bound, is-valid, is-invalid, Known}
+use Rattle.board.specs.Inference.Infers.{Obeys}
+use Rattle.board.specs.Paper.Entries.{Entries, Shows, shown}
+use Rattle.board.specs.Paper.Limits.{Within, Fits}
+use Rattle.board.specs.Order.Leastness.{Below, Impossible}
+use Rattle.board.specs.Order.Laws.{atLeast-up}
+use Rattle.board.specs.Schedule.Scheduled.{Positive, AboutAdded}
+use Rattle.entries.specs.Paper.Entry.{Entry, addition, arc, mark, cut, addedRow, stated, addRow, stating, withEntry}
+use Rattle.entries.specs.Made.{ShowsEntry, with-split, with-join, with-jobs}
 use Rattle.entries.specs.Listed.{Agree, agree-sym, agreed}
 use Rattle.entries.specs.Allowed.{Allowed, allowed-known}
-use Rattle.entries.specs.Enter.{counted}
+use Rattle.entries.specs.Paper.Enter.{counted}
 use Rattle.entries.specs.Settles.{Settled, SettledTo}
 
 -- entries that passed the checks: lengths of at least 1, and facts about jobs added

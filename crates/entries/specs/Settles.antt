@@ -2,17 +2,17 @@
 use mathlib.Core.Path.{_≡_, _∙_}
 use mathlib.Core.Option.{Option, none, some}
 use Rattle.board.specs.declared.Board.{Board}
-use Rattle.board.specs.View.{View, view}
-use Rattle.board.specs.Inference.{Obeys}
-use Rattle.board.specs.Entries.{shown, _⊑_}
-use Rattle.board.specs.Limits.{Within}
-use Rattle.board.specs.Order.{⊑-trans}
+use Rattle.board.specs.Paper.View.{View, view}
+use Rattle.board.specs.Inference.Infers.{Obeys}
+use Rattle.board.specs.Paper.Entries.{shown, _⊑_}
+use Rattle.board.specs.Paper.Limits.{Within}
+use Rattle.board.specs.Order.Laws.{⊑-trans}
 use Rattle.closure.specs.Closes.{ClosedTo, closure-closes}
 use Rattle.closure.specs.Closing.{closure}
-use Rattle.entries.specs.Entry.{Entry}
-use Rattle.entries.specs.Made.{ShowsEntry, withEntry, entry-up}
+use Rattle.entries.specs.Paper.Entry.{Entry, withEntry}
+use Rattle.entries.specs.Made.{ShowsEntry, entry-up}
 use Rattle.entries.specs.Allowed.{Allowed}
-use Rattle.entries.specs.Enter.{raw, closureWith}
+use Rattle.entries.specs.Paper.Enter.{raw, closureWith}
 use Rattle.entries.specs.Raw.{RawShown, Raw, raw-shown}
 
 pub record Settled (b : Board) (e : Entry) (c : Board) : Type 0 where

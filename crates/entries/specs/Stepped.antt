@@ -1,30 +1,25 @@
 -- One call on a board that entries reached: it ends as `Outcome` says, and the board after it is reached again.
-use mathlib.Core.Path.{_≡_, refl, sym, subst}
-use mathlib.Core.Bool.{Bool, true, false}
-use mathlib.Core.List.{List, [], _∷_, _++_}
+use mathlib.Core.Path.{_≡_, refl}
+use mathlib.Core.Bool.{true, false}
 use mathlib.Core.Option.{Option, none, some}
-use Prim.Native.Nat.{ℕ, _≤_, min, _+_}
-use native.Mathlib.Omega.{arith}
 use Rattle.board.specs.declared.Board.{Board}
 use Rattle.board.specs.declared.Refusal.{Refusal}
 use Rattle.board.specs.declared.Refusal.the-variants as Refused
-use Rattle.board.specs.View.{view}
-use Rattle.board.specs.Entries.{Entries, shown, Least, Contradiction}
-use Rattle.board.specs.Limits.{Within}
-use Rattle.board.specs.Leastness.{Below, Impossible, below-least, below-shown, impossible-contradiction}
-use Rattle.board.specs.Extension.{above-self}
-use Rattle.board.specs.RulesAgree.{obeys-rules}
+use Rattle.board.specs.Paper.View.{view}
+use Rattle.board.specs.Paper.Entries.{Entries, shown, Least}
+use Rattle.board.specs.Order.Leastness.{Impossible, below-least, below-shown, impossible-contradiction}
+use Rattle.board.specs.Update.Extension.{above-self}
+use Rattle.board.specs.Inference.Agrees.{obeys-rules}
 use Rattle.closure.specs.Check.{passes}
 use Rattle.closure.specs.Checked.{passes-within, passes-obeys, obeys-passes}
 use Rattle.entries.specs.declared.Entered.{Entered}
-use Rattle.entries.specs.Entry.{Entry}
-use Rattle.entries.specs.Gate.{checks, gate}
-use Rattle.entries.specs.Made.{withEntry}
-use Rattle.entries.specs.Allowed.{Allowed, gate-allows}
-use Rattle.entries.specs.Enter.{closureWith, acceptance, counted, refused, concluded, judged, enter}
-use Rattle.entries.specs.Settles.{Settled, SettledTo, settles}
+use Rattle.entries.specs.Paper.Entry.{Entry, withEntry}
+use Rattle.entries.specs.Paper.Gate.{checks, gate}
+use Rattle.entries.specs.Allowed.{gate-allows}
+use Rattle.entries.specs.Paper.Enter.{closureWith, refused, concluded, judged, enter}
+use Rattle.entries.specs.Settles.{SettledTo, settles}
 use Rattle.entries.specs.Reached.{Reached, reached-with, impossible-with}
-use Rattle.entries.specs.Exact.{Ends, Outcome, by-table, impossible, accepted}
+use Rattle.entries.specs.Paper.Exact.{Ends, Outcome, by-table, impossible, accepted}
 
 -- the outcome in the form that passes to the next call
 abbrev pub Step : Entries → Board → Entry → Entered → Type 0

@@ -7,18 +7,17 @@ use mathlib.Core.List.{List, [], _∷_, _++_, List·Memᴰ}
 use Prim.Native.Nat.{ℕ, _≤_}
 use Rattle.board.specs.declared.Board.{Board}
 use Rattle.board.specs.declared.Refusal.the-variants as Refused
-use Rattle.board.specs.View.{view}
-use Rattle.board.specs.Limits.{tallyLimit, Within, emptyBoard}
-use Rattle.board.specs.Rules.{R1}
-use Rattle.board.specs.Entries.{Entries, Least, Contradiction}
-use Rattle.board.specs.Schedules.{Placing, Schedule, Keeps}
-use Rattle.board.specs.Equality.{Same}
+use Rattle.board.specs.Paper.View.{view}
+use Rattle.board.specs.Paper.Limits.{tallyLimit, Within, emptyBoard}
+use Rattle.board.specs.Paper.Rules.{R1}
+use Rattle.board.specs.Paper.Entries.{Least, Contradiction}
+use Rattle.board.specs.Paper.Schedules.{Placing, Schedule, Keeps}
+use Rattle.board.specs.Paper.Equality.{Same}
 use Rattle.closure.specs.Check.{passes}
 use Rattle.entries.specs.declared.Answer.the-variants as Answers
-use Rattle.entries.specs.Entry.{Entry, added, additions, entries}
-use Rattle.entries.specs.Enter.{enter}
-use Rattle.entries.specs.Exact.{Outcome}
-use Rattle.entries.specs.Sequence.{Call, outcome, after, accepted}
+use Rattle.entries.specs.Paper.Entry.{Entry, added, additions, entries}
+use Rattle.entries.specs.Paper.Exact.{Outcome}
+use Rattle.entries.specs.Paper.Sequence.{Call, outcome, after, accepted}
 
 -- "Jobs are the same if their additions name the same length, window and mark; other entries are the same if they are of
 -- one sort with the same numbers": the same jobs in the same order, and the same set of other entries.

@@ -1,42 +1,31 @@
 -- Demand 3 for the entry calls holds of every list of calls, from an empty board with any tally within its limit.
-use mathlib.Core.Path.{_≡_, refl, sym, _∙_, ap, subst}
-use mathlib.Core.Logic.{_↔_}
-use mathlib.Core.Bool.{true}
+use mathlib.Core.Path.{_≡_, refl, ap}
 use mathlib.Core.List.{List, [], _∷_, _++_, List·Memᴰ, List·Memᴰ·not-nil}
-use mathlib.Core.Option.{Option, none, some}
-use Prim.Native.Nat.{ℕ, _≤_, _<_}
+use Prim.Native.Nat.{ℕ, _≤_}
 use native.Mathlib.Omega.{arith}
 use lib.ListN.{length, getD}
-use Rattle.board.specs.declared.Board.{Board}
-use Rattle.board.specs.declared.Refusal.{Refusal}
 use Rattle.board.specs.declared.Refusal.the-variants as Refused
-use Rattle.board.specs.View.{View, Live, Arc, view}
-use Rattle.board.specs.Facts.{Fact, is-arc, Holds}
-use Rattle.board.specs.Limits.{tallyLimit, Within, emptyBoard, zeroRow}
-use Rattle.board.specs.Empty.{within-empty}
-use Rattle.board.specs.Rules.{R1}
-use Rattle.board.specs.Inference.{Infers, r1, r2, r3, r45, r6, Obeys}
-use Rattle.board.specs.RulesAgree.{obeys-rules}
-use Rattle.board.specs.Entries.{Entries, AtLeast, Least, Contradiction, Drawn, drawn, _⊑_}
-use Rattle.board.specs.Leastness.{Below, Impossible, impossible-contradiction}
-use Rattle.board.specs.Schedules.{Placing, Schedule, Keeps}
-use Rattle.board.specs.ScheduledShows.{every-schedule-keeps, no-schedule}
-use Rattle.board.specs.Equality.{Same, same-boards}
+use Rattle.board.specs.Paper.View.{View, view}
+use Rattle.board.specs.Paper.Facts.{Fact, Holds}
+use Rattle.board.specs.Paper.Limits.{tallyLimit, Within, emptyBoard, zeroRow}
+use Rattle.board.specs.Tests.Empty.{within-empty}
+use Rattle.board.specs.Inference.Infers.{Infers, r1, r2, r3, r45, r6}
+use Rattle.board.specs.Inference.Agrees.{obeys-rules}
+use Rattle.board.specs.Paper.Entries.{Contradiction, Drawn, drawn}
+use Rattle.board.specs.Order.Leastness.{Impossible, impossible-contradiction}
+use Rattle.board.specs.Paper.Schedules.{Placing, Schedule}
+use Rattle.board.specs.Schedule.Shows.{every-schedule-keeps, no-schedule}
+use Rattle.board.specs.Order.Unique.{same-boards}
 use Rattle.closure.specs.Check.{passes}
 use Rattle.closure.specs.Checked.{obeys-passes}
-use Rattle.entries.specs.declared.Answer.{Answer}
 use Rattle.entries.specs.declared.Answer.the-variants as Answers
-use Rattle.entries.specs.declared.Entered.{Entered}
-use Rattle.entries.specs.Entry.{Entry, addition, arc, mark, cut, added, stated, additions, Stated, entries}
-use Rattle.entries.specs.Gate.{checks, gate}
-use Rattle.entries.specs.Enter.{acceptance, enter}
+use Rattle.entries.specs.Paper.Entry.{Entry, addition, arc, mark, cut, added, stated, additions, Stated, entries}
+use Rattle.entries.specs.Paper.Enter.{enter}
 use Rattle.entries.specs.Answered.{answered-impossible}
-use Rattle.entries.specs.Made.{withEntry}
 use Rattle.entries.specs.Listed.{Agree, agree-sym, agree-snoc, agreed}
-use Rattle.entries.specs.Reached.{Proper, Reached}
-use Rattle.entries.specs.Stepped.{Step, step, outcome, reached-least}
+use Rattle.entries.specs.Stepped.{step, outcome, reached-least}
 use Rattle.entries.specs.Played.{Held, proper-snoc, played}
-use Rattle.entries.specs.Sequence.{Call, after}
+use Rattle.entries.specs.Paper.Sequence.{Call}
 use Rattle.promises.specs.Demand.{SameEntries, finalBoard, acceptedBy, Demand}
 
 -- a view without jobs infers nothing

@@ -1,22 +1,20 @@
 -- "Twelve marked examples": M1 to M12 as one table, computed as a whole through `enter`.
 use mathlib.Core.Path.{_≡_, refl}
 use mathlib.Core.Bool.{Bool, true, false, _&&_}
-use mathlib.Core.List.{List, [], _∷_, _++_, map}
-use mathlib.Core.Option.{Option, none, some}
-use Prim.Native.Nat.{ℕ, _+_, _*_, _^_, _/_, _%_}
-use lib.Dec.{eqb, T}
-use lib.IntN.{ℤ, pos, negsuc}
+use mathlib.Core.List.{List, [], _∷_}
+use Prim.Native.Nat.{ℕ}
+use lib.Dec.{eqb}
+use lib.IntN.{pos}
 use lib.Signed.{leZ}
-use lib.ListN.{getD, set, replicate}
 use Rattle.words.specs.Bit.{bit, with, without, union, difference, singleton}
 use Rattle.minutes.specs.Sum.{sum}
 use Rattle.board.specs.declared.Board.{Board}
-use Rattle.board.specs.Limits.{emptyBoard}
-use Rattle.board.specs.LimitsTest.{all, implies, between, isTime, isLength, isZero, fits, isZeroRow, full, shape, holdsJob, holdsNothing, joinable, agrees, withinLimits}
-use Rattle.board.specs.Refusals.{numberOf}
-use Rattle.board.specs.View.{rowOf}
-use Rattle.board.specs.Tests.{live, valid}
-use Rattle.board.specs.Updates.{exclude, tighten, update}
+use Rattle.board.specs.Paper.Limits.{emptyBoard}
+use Rattle.board.specs.Tests.Limits.{all, implies, between, isTime, isLength, isZero, fits, isZeroRow, full, shape, holdsJob, holdsNothing, joinable, agrees, withinLimits}
+use Rattle.board.specs.Paper.Refusals.{numberOf}
+use Rattle.board.specs.Paper.View.{rowOf}
+use Rattle.board.specs.Tests.Live.{live, valid}
+use Rattle.board.specs.Update.Updates.{exclude, tighten, update}
 use Rattle.closure.specs.Find.{guard, _orElse_, first, any, beyond, cramped, tooLate, joined, pushers, pushed, push, next, find}
 use Rattle.closure.specs.Closing.{close, closure}
 use Rattle.closure.specs.Check.{settled, passes}
@@ -24,10 +22,10 @@ use Rattle.entries.specs.declared.Answer.{Answer}
 use Rattle.entries.specs.declared.Answer.the-variants as Answers
 use Rattle.entries.specs.declared.PairAnswer.{PairAnswer}
 use Rattle.entries.specs.declared.PairAnswer.the-variants as Pairs
-use Rattle.entries.specs.Entry.{Entry, addition, arc, mark, cut}
-use Rattle.entries.specs.Gate.{gate, isJob}
-use Rattle.entries.specs.Enter.{appendAll, updateAll, raw, closureWith, enter}
-use Rattle.entries.specs.Looking.{pair}
+use Rattle.entries.specs.Paper.Entry.{Entry, addition, arc, mark}
+use Rattle.entries.specs.Paper.Gate.{gate}
+use Rattle.entries.specs.Paper.Enter.{appendAll, updateAll, raw, closureWith, enter}
+use Rattle.entries.specs.Paper.Looking.{pair}
 
 -- a job of length l in the window e to d, valid or undecided
 job : ℕ → ℕ → ℕ → Entry

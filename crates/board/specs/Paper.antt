@@ -1,0 +1,9 @@
+-- Document 01 as definitions: what a reader must believe. Each stands beside the sentence that it states.
+pub mod View
+pub mod Limits
+pub mod Facts
+pub mod Rules
+pub mod Entries
+pub mod Schedules
+pub mod Equality
+pub mod Refusals

@@ -1,0 +1,49 @@
+-- A schedule makes a board: its jobs are valid, with their starts and ends for windows, and the others are invalid.
+-- What the board shows of its jobs and arcs is what the schedule says of them.
+use mathlib.Core.Logic.{_≢_}
+use mathlib.Core.Bool.{cond, _&&_}
+use Prim.Native.Nat.{ℕ, _<_}
+use native.Mathlib.Omega.{arith}
+use lib.IntN.{pos}
+use lib.Signed.{leZ, _≤ℤ_}
+use Rattle.minutes.specs.Linear.{whole, is-true}
+use Rattle.board.specs.Paper.View.{Row, View, Live, Arc}
+use Rattle.board.specs.Paper.Facts.{Fact, Known}
+use Rattle.board.specs.Paper.Limits.{zeroRow}
+use Rattle.board.specs.Paper.Entries.{Entries}
+use Rattle.board.specs.Paper.Schedules.{Placing, Placed, end}
+use Rattle.board.specs.Tests.Live.{and-parts}
+
+-- the row of a job that takes place: it fills its window
+abbrev pub placedRow : Entries → Placing → ℕ → Row
+placedRow es p j = record { mark = 1; length = es .row j .length; earliest = p .start j; latest = end es p j }
+
+-- An arc joins two jobs where the first ends no later than the second starts. A job that takes time has none to itself.
+abbrev pub scheduled : Entries → Placing → View
+scheduled es p =
+    record {
+      jobs = es .jobs;
+      row = λ j. cond (p .placed j) (placedRow es p j) (zeroRow 2);
+      arc = λ i k. p .placed i && p .placed k && leZ (end es p i) (p .start k);
+    }
+
+-- every added job that is not marked 2 has a length of at least 1
+abbrev pub Positive : Entries → Type 0
+Positive es = (j : ℕ) → j < es .jobs → es .row j .mark ≢ 2 → pos 1 ≤ℤ es .row j .length
+
+-- every fact stated is about added jobs
+abbrev pub AboutAdded : Entries → Type 0
+AboutAdded es = (f : Fact) → es .facts f → Known (es .jobs) f
+
+module _ (es : Entries) (p : Placing) where
+  pub live-placed : (j : ℕ) → Live (scheduled es p) j → Placed p j
+  live-placed j (l, n) = is-true (p .placed j) λ e. n (rw e)
+
+  pub placed-live : (j : ℕ) → j < es .jobs → Placed p j → Live (scheduled es p) j
+  placed-live j l e = (l, rw e (omega arith))
+
+  pub arc-read : (i k : ℕ) → Arc (scheduled es p) i k → end es p i ≤ℤ p .start k
+  arc-read i k a = omega (whole, and-parts (p .placed i && p .placed k) (leZ (end es p i) (p .start k)) a .1)
+
+  pub arc-show : (i k : ℕ) → Placed p i → Placed p k → end es p i ≤ℤ p .start k → Arc (scheduled es p) i k
+  arc-show i k e d h = rw (e, d) (omega whole)

@@ -1,0 +1,9 @@
+-- Updates by one fact or one job: the least board above that shows it.
+pub mod Updates
+pub mod Extension
+pub mod Stores
+pub mod Limits
+pub mod Order
+pub mod Rows
+pub mod Updated
+pub mod Appended

@@ -1,0 +1,80 @@
+-- One more job: its row stored at the first place without one.
+use mathlib.Core.Path.{refl}
+use mathlib.Core.Logic.{_≢_}
+use Prim.Native.Nat.{ℕ, suc, _<_, _≤_}
+use native.Mathlib.Omega.{arith}
+use Rattle.board.specs.declared.Board.{Board}
+use Rattle.board.specs.Paper.View.{Row, Live, rowOf, view}
+use Rattle.board.specs.Paper.Facts.{is-arc}
+use Rattle.board.specs.Paper.Limits.{jobLimit, Fits, Shape, Within}
+use Rattle.board.specs.Paper.Entries.{Shown, drawn}
+use Rattle.board.specs.Order.Laws.{shown-refl}
+use Rattle.board.specs.Update.Updates.{append}
+use Rattle.board.specs.Update.Extension.{Appended}
+use Rattle.board.specs.Update.Stores.{stored-same, stored}
+use Rattle.board.specs.Update.Limits.{RowWithin, row-within, live-row, within-by, store-shape, live-stored}
+use Rattle.board.specs.Update.Order.{by-arcs}
+
+-- the place past the jobs is the only one that the count moves across
+one-more : (n k : ℕ) (r : Row) → k ≢ n → RowWithin n k r → RowWithin (suc n) k r
+one-more n k r ne h =
+    record {
+      marks = h .marks;
+      live = λ l. h .live (omega arith);
+      invalid = λ l. h .invalid (omega arith);
+      blank = λ l. h .blank (omega arith);
+    }
+
+module _ (b : Board) (r : Row) (within : Within b) (free : b .jobs < jobLimit) where
+  append-shape : Shape (append b r)
+  append-shape =
+      let s = store-shape b (within .shape) (b .jobs) r in
+      record {
+        lengths = s .lengths;
+        earliest = s .earliest;
+        latest = s .latest;
+        marks = s .marks;
+        after = s .after;
+        before = s .before;
+      }
+
+  append-within : Fits r → r .mark ≤ 1 → Within (append b r)
+  append-within fits m =
+      within-by (append b r) append-shape free (within .tally) rows
+      (λ x y a. let (lx, ly, ne) = within .arcs x y a in (live x lx, live y ly, ne))
+      (within .twice)
+    where
+      rows : (k : ℕ) → RowWithin (suc (b .jobs)) k (rowOf (append b r) k)
+      rows =
+          stored b (within .shape) (b .jobs) r free (RowWithin (suc (b .jobs)))
+          (live-row (suc (b .jobs)) (b .jobs) r (omega arith) m fits)
+          λ k ne. one-more (b .jobs) k (rowOf b k) ne (row-within b within k)
+
+      live : (x : ℕ) → Live (view b) x → Live (view (append b r)) x
+      live x l = (omega arith, live-stored b within (b .jobs) r free x l (λ e. omega arith) .1)
+
+  pub appended : Fits r → r .mark ≤ 1 → Appended b r (append b r)
+  appended fits m =
+      record {
+        within = append-within fits m;
+        jobs = refl;
+        tally = refl;
+        above = record {
+          jobs = omega arith;
+          rows = stored b (within .shape) (b .jobs) r free (λ k s. k < b .jobs → Shown (rowOf b k) s)
+              (λ l. absurd (omega arith))
+              λ k _ _. shown-refl (rowOf b k);
+          facts = by-arcs (view b) (view (append b r)) λ x y a.
+              let (lx, ly, _) = within .arcs x y a in
+              (omega arith, omega arith, λ _ _. a);
+        };
+        row = stored-same b (within .shape) (b .jobs) r free;
+        least = λ w up more new.
+            record {
+              jobs = more;
+              rows = stored b (within .shape) (b .jobs) r free (λ k s. k < suc (b .jobs) → Shown s (w .row k))
+                  (λ _. new)
+                  λ k ne l. up .rows k (omega arith);
+              facts = by-arcs (view (append b r)) w λ x y a. up .facts (is-arc x y) (drawn x y a);
+            };
+      }

@@ -1,0 +1,104 @@
+-- Updates: the least board above b where one more fact holds, or none where a mark would have to change.
+-- Entries and rules go through the same four, and the window test R6 follows every raise at once.
+use mathlib.Core.Bool.{Bool, cond, _&&_}
+use mathlib.Core.List.{List, map}
+use mathlib.Core.Option.{Option, none, some}
+use Prim.Native.Nat.{ℕ, suc}
+use lib.Dec.{eqb}
+use lib.IntN.{ℤ, negℤ, _+ℤ_}
+use lib.ListN.{getD, set}
+use lib.Signed.{leZ, ltZ}
+use Rattle.words.specs.Bit.{with, without}
+use Rattle.board.specs.declared.Board.{Board}
+use Rattle.board.specs.Paper.View.{Row, Side, early, late, bound, rowOf, view}
+use Rattle.board.specs.Paper.Facts.{Fact, is-arc, is-bound, is-valid, is-invalid}
+use Rattle.board.specs.Tests.Live.{live}
+use Rattle.board.specs.Paper.Limits.{jobLimit, zeroRow}
+
+-- row j stored anew
+abbrev pub store : Board → ℕ → Row → Board
+store b j r =
+    record {
+      jobs = b .jobs;
+      lengths = set (b .lengths) j (r .length);
+      earliest = set (b .earliest) j (r .earliest);
+      latest = set (b .latest) j (r .latest);
+      marks = set (b .marks) j (r .mark);
+      after = b .after;
+      before = b .before;
+      tally = b .tally;
+    }
+
+-- an arc i to k, in both words that keep it
+abbrev pub link : Board → ℕ → ℕ → Board
+link b i k =
+    record {
+      jobs = b .jobs;
+      lengths = b .lengths;
+      earliest = b .earliest;
+      latest = b .latest;
+      marks = b .marks;
+      after = set (b .after) i (with (getD (b .after) i 0) k);
+      before = set (b .before) k (with (getD (b .before) k 0) i);
+      tally = b .tally;
+    }
+
+-- the words without job j, and no arcs of its own
+abbrev pub isolate : List ℕ → ℕ → List ℕ
+isolate words j = set (map (λ w. without jobLimit w j) words) j 0
+
+-- "An invalid job holds length 0, E 0, D 0 and no arcs"
+abbrev pub invalidate : Board → ℕ → Board
+invalidate b j =
+    let c = store b j (zeroRow 2) in
+    record {
+      jobs = c .jobs;
+      lengths = c .lengths;
+      earliest = c .earliest;
+      latest = c .latest;
+      marks = c .marks;
+      after = isolate (b .after) j;
+      before = isolate (b .before) j;
+      tally = c .tally;
+    }
+
+-- a row with its bound on one side raised to z
+abbrev pub raised : Side → ℤ → Row → Row
+raised early z r = record { mark = r .mark; length = r .length; earliest = z; latest = r .latest }
+raised late z r = record { mark = r .mark; length = r .length; earliest = r .earliest; latest = negℤ z }
+
+abbrev pub validated : Row → Row
+validated r = record { mark = 1; length = r .length; earliest = r .earliest; latest = r .latest }
+
+-- does the job fit its window?
+abbrev pub roomy : Row → Bool
+roomy r = leZ (r .earliest +ℤ r .length) (r .latest)
+
+-- "makes an undecided job invalid and a valid one a contradiction"
+unfoldable pub exclude : Board → ℕ → Option Board
+exclude b j = cond (eqb (rowOf b j .mark) 1) none (some (cond (eqb (rowOf b j .mark) 2) b (invalidate b j)))
+
+unfoldable pub tighten : Board → ℕ → Row → Option Board
+tighten b j r = cond (roomy r) (some (store b j r)) (exclude b j)
+
+unfoldable pub update : Board → Fact → Option Board
+update b (is-arc i k) = some (cond (live (view b) i && live (view b) k) (link b i k) b)
+update b (is-bound s j z) =
+    cond (live (view b) j && ltZ (bound s (rowOf b j)) z) (tighten b j (raised s z (rowOf b j))) (some b)
+update b (is-valid j) = cond (eqb (rowOf b j .mark) 2) none (some (store b j (validated (rowOf b j))))
+update b (is-invalid j) = exclude b j
+
+-- a job added: its row at the first place without a job
+abbrev pub append : Board → Row → Board
+append b r =
+    let c = store b (b .jobs) r in
+    record {
+      jobs = suc (b .jobs);
+      lengths = c .lengths;
+      earliest = c .earliest;
+      latest = c .latest;
+      marks = c .marks;
+      after = b .after;
+      before = b .before;
+      tally = b .tally;
+    }

@@ -1,0 +1,76 @@
+-- `enter`: the answer to an entry and the board after it, for every board handed in and all numbers.
+use mathlib.Core.Bool.{true, false}
+use mathlib.Core.List.{List, [], _∷_}
+use mathlib.Core.Option.{Option, none, some}
+use Prim.Native.Nat.{ℕ, _+_, min}
+use Rattle.board.specs.declared.Board.{Board}
+use Rattle.board.specs.declared.Refusal.{Refusal}
+use Rattle.board.specs.declared.Refusal.the-variants as Refused
+use Rattle.board.specs.Paper.Facts.{Fact}
+use Rattle.board.specs.Paper.Limits.{tallyLimit}
+use Rattle.board.specs.Paper.View.{Row}
+use Rattle.board.specs.Update.Updates.{update, append}
+use Rattle.closure.specs.Closing.{closure}
+use Rattle.closure.specs.Check.{passes}
+use Rattle.entries.specs.declared.Answer.{Answer}
+use Rattle.entries.specs.declared.Answer.the-variants as Answers
+use Rattle.entries.specs.declared.Entered.{Entered}
+use Rattle.entries.specs.Paper.Entry.{Entry, addition, arc, mark, cut, added, stated}
+use Rattle.entries.specs.Paper.Gate.{checks, gate}
+
+-- the rows added to the board, one after the other
+unfoldable pub appendAll : Board → List Row → Board
+appendAll b [] = b
+appendAll b (r ∷ rs) = appendAll (append b r) rs
+
+-- the facts shown, one after the other, or none where a mark would have to change
+unfoldable pub updateAll : Board → List Fact → Option Board
+updateAll b [] = some b
+updateAll b (f ∷ fs) = elim (update b f) [ none ↦ none | some c ↦ updateAll c fs ]
+
+-- the entry shown by the board, nothing inferred yet
+unfoldable pub raw : Board → Entry → Option Board
+raw b e = updateAll (appendAll b (added e)) (stated e)
+
+-- the closure with the entry, or none where it is a contradiction
+unfoldable pub closureWith : Board → Entry → Option Board
+closureWith b e = elim (raw b e) [ none ↦ none | some c ↦ closure c ]
+
+-- "The board carries a tally of calls answered 8. It starts at 0 and stops at 1000000."
+abbrev pub counted : Board → Board
+counted b =
+    record {
+      jobs = b .jobs;
+      lengths = b .lengths;
+      earliest = b .earliest;
+      latest = b .latest;
+      marks = b .marks;
+      after = b .after;
+      before = b .before;
+      tally = min (b .tally + 1) tallyLimit;
+    }
+
+-- acceptance by a board of n jobs; an addition "gives the job's number"
+abbrev pub acceptance : ℕ → Entry → Answer
+acceptance n (addition l e d m) = Answers.Added n
+acceptance n (arc a b) = Answers.Accepted
+acceptance n (mark j m) = Answers.Accepted
+acceptance n (cut j e d) = Answers.Accepted
+
+-- "A refusal carries its number only and alters nothing"
+abbrev pub refused : Refusal → Board → Entered
+refused r b = record { answer = Answers.Refused r; board = b }
+
+-- "number 8 adds one to the tally"
+abbrev pub concluded : Board → Entry → Option Board → Entered
+concluded b e none = refused Refused.Impossible (counted b)
+concluded b e (some c) = record { answer = acceptance (b .jobs) e; board = c }
+
+-- the checks of the table met, then the closure
+abbrev pub judged : Board → Entry → Option Refusal → Entered
+judged b e (some r) = refused r b
+judged b e none = concluded b e (closureWith b e)
+
+-- "Checks go 0, [..] then 1 to 9, as far as a call has them."
+unfoldable pub enter : Board → Entry → Entered
+enter b e = elim (passes b) [ false ↦ refused Refused.Board b | true ↦ judged b e (gate (checks (b .jobs) e)) ]

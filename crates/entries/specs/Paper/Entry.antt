@@ -1,0 +1,76 @@
+-- The four sorts of entry, with any numbers, and what a list of them states.
+use mathlib.Core.Logic.{_⊎_}
+use mathlib.Core.Bool.{cond}
+use mathlib.Core.List.{List, [], _∷_, _++_, List·Memᴰ}
+use Prim.Native.Nat.{ℕ, suc}
+use lib.Dec.{eqb}
+use lib.IntN.{ℤ, negℤ}
+use lib.ListN.{length, getD}
+use Rattle.minutes.specs.Linear.{above}
+use Rattle.board.specs.Paper.View.{Row, early, late}
+use Rattle.board.specs.Paper.Facts.{Fact, is-arc, is-bound, is-valid, is-invalid}
+use Rattle.board.specs.Paper.Entries.{Entries}
+use Rattle.board.specs.Paper.Limits.{zeroRow}
+
+pub data Entry : Type 0 where
+  -- "Addition: length, E, D, mark 0 or 1"
+  addition : ℤ → ℤ → ℤ → ℤ → Entry
+  -- "Arc A to B: if both take place, A ends no later than B starts."
+  arc : ℤ → ℤ → Entry
+  -- "Mark a job 1 or 2."
+  mark : ℤ → ℤ → Entry
+  -- "Cut a job with a window E, D: the later E and the earlier D hold."
+  cut : ℤ → ℤ → ℤ → Entry
+
+-- The natural number that z is. It is read off numbers that have passed the checks of the table, and those are not negative.
+abbrev pub number : ℤ → ℕ
+number z = above z
+
+-- the row of an addition
+abbrev pub addedRow : ℤ → ℤ → ℤ → ℤ → Row
+addedRow l e d m = record { mark = number m; length = l; earliest = e; latest = d }
+
+-- the rows that an entry adds
+abbrev pub added : Entry → List Row
+added (addition l e d m) = addedRow l e d m ∷ []
+added (arc a b) = []
+added (mark j m) = []
+added (cut j e d) = []
+
+-- the facts that an entry states of jobs on the board
+abbrev pub stated : Entry → List Fact
+stated (addition l e d m) = []
+stated (arc a b) = is-arc (number a) (number b) ∷ []
+stated (mark j m) = cond (eqb (number m) 1) (is-valid (number j)) (is-invalid (number j)) ∷ []
+stated (cut j e d) = is-bound early (number j) e ∷ is-bound late (number j) (negℤ d) ∷ []
+
+-- the jobs added, in order
+unfoldable pub additions : List Entry → List Row
+additions [] = []
+additions (e ∷ es) = added e ++ additions es
+
+-- one of the entries states the fact
+pub record Stated (es : List Entry) (f : Fact) : Type 0 where
+  pub entry : Entry
+  pub made : List·Memᴰ entry es
+  pub states : List·Memᴰ f (stated entry)
+
+-- the entries of a list: jobs in the order of their additions, the other entries as a set
+abbrev pub entries : List Entry → Entries
+entries es =
+    record { jobs = length (additions es); row = λ k. getD (additions es) k (zeroRow 0); facts = Stated es }
+
+-- a job added after the others
+abbrev pub addRow : Entries → Row → Entries
+addRow es r = record { jobs = suc (es .jobs); row = λ k. cond (eqb k (es .jobs)) r (es .row k); facts = es .facts }
+
+-- facts stated of the jobs added
+abbrev pub stating : Entries → List Fact → Entries
+stating es fs = record { jobs = es .jobs; row = es .row; facts = λ f. es .facts f ⊎ List·Memᴰ f fs }
+
+-- the entries with one more
+abbrev pub withEntry : Entries → Entry → Entries
+withEntry es (addition l e d m) = addRow es (addedRow l e d m)
+withEntry es (arc a b) = stating es (stated (arc a b))
+withEntry es (mark j m) = stating es (stated (mark j m))
+withEntry es (cut j e d) = stating es (stated (cut j e d))
