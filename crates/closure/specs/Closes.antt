@@ -78,4 +78,4 @@ closes (suc n) b h m = found (find (view b)) refl (λ c w l. closes n c w l)
 
 pub closure-closes : (b : Board) → Within b → ClosedTo b (closure b)
 unfolding closure
-closure-closes b h = closes (suc steps) b h (omega (arith, measure-bound b h))
+closure-closes b h = closes _ b h (omega (arith, measure-bound b h))

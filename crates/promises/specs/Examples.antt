@@ -1,11 +1,11 @@
 -- "Twelve marked examples": M1 to M12 as one table, computed as a whole through `enter`.
 use mathlib.Core.Path.{_≡_, refl}
 use mathlib.Core.Bool.{Bool, true, false, _&&_}
-use mathlib.Core.List.{List, [], _∷_}
+use mathlib.Core.List.{List, [], _∷_, _++_}
+use mathlib.Core.Option.{Option, none, some}
 use Prim.Native.Nat.{ℕ}
 use lib.Dec.{eqb}
 use lib.IntN.{pos}
-use lib.Signed.{leZ}
 use Rattle.words.specs.Bit.{bit, with, without, union, difference, singleton}
 use Rattle.minutes.specs.Sum.{sum}
 use Rattle.board.specs.declared.Board.{Board}
@@ -27,79 +27,102 @@ use Rattle.entries.specs.Paper.Gate.{gate}
 use Rattle.entries.specs.Paper.Enter.{appendAll, updateAll, raw, closureWith, enter}
 use Rattle.entries.specs.Paper.Looking.{pair}
 
--- a job of length l in the window e to d, valid or undecided
-job : ℕ → ℕ → ℕ → Entry
+-- a valid job of length l in the window e to d, and an undecided one
+abbrev pub job : ℕ → ℕ → ℕ → Entry
 job l e d = addition (pos l) (pos e) (pos d) (pos 1)
 
-undecided : ℕ → ℕ → ℕ → Entry
+abbrev pub undecided : ℕ → ℕ → ℕ → Entry
 undecided l e d = addition (pos l) (pos e) (pos d) (pos 0)
 
-before : ℕ → ℕ → Entry
-before a b = arc (pos a) (pos b)
+abbrev pub arrow : ℕ → ℕ → Entry
+arrow a b = arc (pos a) (pos b)
 
--- what an example says of its last answer or of the board after it
-data Claim : Type 0 where
-  isRefused : ℕ → Claim
-  isTaken : Claim
-  hasEarliest : ℕ → ℕ → Claim
-  hasMark : ℕ → ℕ → Claim
-  hasPair : ℕ → ℕ → ℕ → Claim
+-- A line of an example: an entry that is accepted, or refused with a number; or something said of the board after it.
+pub data Line : Type 0 where
+  enters : Entry → Line
+  refuses : ℕ → Entry → Line
+  earliestIs : ℕ → ℕ → Line
+  markIs : ℕ → ℕ → Line
+  pairIs : ℕ → ℕ → ℕ → Line
 
-refusalIs : ℕ → Answer → Bool
-refusalIs n (Answers.Added k) = false
-refusalIs n Answers.Accepted = false
-refusalIs n (Answers.Refused r) = eqb (numberOf r) n
+abbrev pub refusal : Answer → Option ℕ
+refusal (Answers.Added k) = none
+refusal Answers.Accepted = none
+refusal (Answers.Refused r) = some (numberOf r)
 
-taken : Answer → Bool
-taken (Answers.Added k) = true
-taken Answers.Accepted = true
-taken (Answers.Refused r) = false
+abbrev pub gives : Option ℕ → Option ℕ → Bool
+gives none none = true
+gives none (some m) = false
+gives (some n) none = false
+gives (some n) (some m) = eqb n m
 
-pairIs : ℕ → PairAnswer → Bool
-pairIs p (Pairs.Pair arcs gap) = eqb arcs p
-pairIs p (Pairs.Refused r) = false
+abbrev pub arcsOf : PairAnswer → Option ℕ
+arcsOf (Pairs.Pair arcs gap) = some arcs
+arcsOf (Pairs.Refused r) = none
 
-says : Claim → Answer → Board → Bool
-says (isRefused n) a b = refusalIs n a
-says isTaken a b = taken a
-says (hasEarliest j e) a b = leZ (rowOf b j .earliest) (pos e) && leZ (pos e) (rowOf b j .earliest)
-says (hasMark j m) a b = eqb (rowOf b j .mark) m
-says (hasPair x y p) a b = pairIs p (pair b (pos x) (pos y))
+-- the lines of an example are true from board b on
+abbrev pub true-from : Board → List Line → Bool
+true-from b [] = true
+true-from b (enters e ∷ ls) = let o = enter b e in gives (refusal (o .answer)) none && true-from (o .board) ls
+true-from b (refuses n e ∷ ls) = let o = enter b e in gives (refusal (o .answer)) (some n) && true-from (o .board) ls
+true-from b (earliestIs j e ∷ ls) = between (pos e) (pos e) (rowOf b j .earliest) && true-from b ls
+true-from b (markIs j m ∷ ls) = eqb (rowOf b j .mark) m && true-from b ls
+true-from b (pairIs x y p ∷ ls) = gives (arcsOf (pair b (pos x) (pos y))) (some p) && true-from b ls
 
--- entries from an empty board, what they come to, and the claims on the last answer and the board
-run : Board → Answer → List Entry → List Claim → Bool
-run b a [] [] = true
-run b a [] (c ∷ cs) = says c a b && run b a [] cs
-run b a (e ∷ es) cs = let o = enter b e in run (o .board) (o .answer) es cs
+abbrev pub all-true : List (List Line) → Bool
+all-true [] = true
+all-true (x ∷ xs) = true-from (emptyBoard 0) x && all-true xs
 
-record Example : Type 0 where
-  entered : List Entry
-  claims : List Claim
+abbrev pub M1 : List Line
+M1 = refuses 4 (job 0 0 100) ∷ []
 
-example : List Entry → List Claim → Example
-example es cs = record { entered = es; claims = cs }
+abbrev pub M2 : List Line
+M2 = enters (job 10000 0 10000) ∷ []
 
-good : List Example → Bool
-good [] = true
-good (x ∷ xs) = run (emptyBoard 0) Answers.Accepted (x .entered) (x .claims) && good xs
+abbrev pub M3 : List Line
+M3 = enters (undecided 10000 0 9999) ∷ markIs 0 2 ∷ []
 
-table : List Example
-table =
-    example (job 0 0 100 ∷ []) (isRefused 4 ∷ [])
-    ∷ example (job 10000 0 10000 ∷ []) (isTaken ∷ [])
-    ∷ example (undecided 10000 0 9999 ∷ []) (isTaken ∷ hasMark 0 2 ∷ [])
-    ∷ example (job 10000 0 9999 ∷ []) (isRefused 8 ∷ [])
-    ∷ example (job 10 0 100 ∷ job 20 0 100 ∷ job 5 0 100 ∷ before 0 2 ∷ before 1 2 ∷ []) (hasEarliest 2 30 ∷ [])
-    ∷ example (job 5 0 100 ∷ job 10 50 100 ∷ job 5 0 100 ∷ before 0 2 ∷ before 1 2 ∷ []) (hasEarliest 2 60 ∷ [])
-    ∷ example (job 5 0 100 ∷ undecided 10 50 100 ∷ job 5 0 100 ∷ before 0 2 ∷ before 1 2 ∷ []) (hasEarliest 2 5 ∷ [])
-    ∷ example (job 40 0 100 ∷ job 20 10 60 ∷ []) (isTaken ∷ hasPair 0 1 0 ∷ [])
-    ∷ example (job 40 0 100 ∷ job 20 10 59 ∷ []) (isTaken ∷ hasPair 0 1 2 ∷ [])
-    ∷ example (job 5 0 100 ∷ undecided 5 0 100 ∷ job 5 0 100 ∷ before 0 1 ∷ before 1 2 ∷ []) (isTaken ∷ hasPair 0 2 0 ∷ [])
-    ∷ example (job 5 0 100 ∷ undecided 5 0 100 ∷ job 5 0 100 ∷ before 0 1 ∷ before 1 2 ∷ mark (pos 1) (pos 1) ∷ []) (isTaken ∷ hasPair 0 2 1 ∷ [])
-    ∷ example (undecided 5 0 100 ∷ undecided 5 0 100 ∷ before 0 1 ∷ before 1 0 ∷ []) (isTaken ∷ hasPair 0 1 3 ∷ [])
-    ∷ example (undecided 5 0 100 ∷ undecided 5 0 100 ∷ before 0 1 ∷ before 1 0 ∷ mark (pos 0) (pos 1) ∷ []) (isTaken ∷ hasMark 1 2 ∷ [])
-    ∷ []
+abbrev pub M4 : List Line
+M4 = refuses 8 (job 10000 0 9999) ∷ []
 
-examples-hold : good table ≡ true
-unfolding job undecided before refusalIs taken pairIs says run example good table bit with without union difference singleton sum all implies between isTime isLength isZero fits isZeroRow full shape holdsJob holdsNothing joinable agrees withinLimits live valid exclude tighten update guard _orElse_ first any beyond cramped tooLate joined pushers pushed push next find close closure settled passes gate appendAll updateAll raw closureWith enter pair
+abbrev pub M5 : List Line
+M5 =
+    enters (job 10 0 100) ∷ enters (job 20 0 100) ∷ enters (job 5 0 100)
+    ∷ enters (arrow 0 2) ∷ enters (arrow 1 2) ∷ earliestIs 2 30 ∷ []
+
+abbrev pub M6 : List Line
+M6 =
+    enters (job 5 0 100) ∷ enters (job 10 50 100) ∷ enters (job 5 0 100)
+    ∷ enters (arrow 0 2) ∷ enters (arrow 1 2) ∷ earliestIs 2 60 ∷ []
+
+abbrev pub M7 : List Line
+M7 =
+    enters (job 5 0 100) ∷ enters (undecided 10 50 100) ∷ enters (job 5 0 100)
+    ∷ enters (arrow 0 2) ∷ enters (arrow 1 2) ∷ earliestIs 2 5 ∷ []
+
+abbrev pub M8 : List Line
+M8 = enters (job 40 0 100) ∷ enters (job 20 10 60) ∷ pairIs 0 1 0 ∷ []
+
+abbrev pub M9 : List Line
+M9 = enters (job 40 0 100) ∷ enters (job 20 10 59) ∷ pairIs 0 1 2 ∷ []
+
+abbrev pub M10 : List Line
+M10 =
+    enters (job 5 0 100) ∷ enters (undecided 5 0 100) ∷ enters (job 5 0 100)
+    ∷ enters (arrow 0 1) ∷ enters (arrow 1 2) ∷ pairIs 0 2 0 ∷ []
+
+abbrev pub M11 : List Line
+M11 = M10 ++ enters (mark (pos 1) (pos 1)) ∷ pairIs 0 2 1 ∷ []
+
+abbrev pub M12 : List Line
+M12 =
+    enters (undecided 5 0 100) ∷ enters (undecided 5 0 100) ∷ enters (arrow 0 1) ∷ enters (arrow 1 0)
+    ∷ pairIs 0 1 3 ∷ enters (mark (pos 0) (pos 1)) ∷ markIs 1 2 ∷ []
+
+abbrev pub table : List (List Line)
+table = M1 ∷ M2 ∷ M3 ∷ M4 ∷ M5 ∷ M6 ∷ M7 ∷ M8 ∷ M9 ∷ M10 ∷ M11 ∷ M12 ∷ []
+
+-- every line of every example is true
+pub examples-hold : all-true table ≡ true
+unfolding bit with without union difference singleton sum all implies between isTime isLength isZero fits isZeroRow full shape holdsJob holdsNothing joinable agrees withinLimits live valid exclude tighten update guard _orElse_ first any beyond cramped tooLate joined pushers pushed push next find close closure settled passes gate appendAll updateAll raw closureWith enter pair
 examples-hold = refl
