@@ -9,3 +9,4 @@ pub mod Measure
 pub mod Closes
 pub mod Checked
 pub mod Confluent
+pub mod ClosureLeast

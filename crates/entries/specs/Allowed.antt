@@ -1,8 +1,8 @@
 -- What an entry that meets no refusal of the table says, in the paper's words.
 use mathlib.Core.Path.{_≡_, refl, sym, subst}
 use mathlib.Core.Logic.{_≢_, ⊎-elim}
-use mathlib.Core.Bool.{Bool, true, false, not, cond}
-use mathlib.Core.List.{List, _∷_, List·Memᴰ, List·Memᴰ·not-nil, List·Memᴰ·cases-cons, List·Memᴰ·eq-of-singleton}
+use mathlib.Core.Bool.{Bool, true, false, not, cond, _&&_}
+use mathlib.Core.List.{List, [], _∷_, List·Memᴰ, List·Memᴰ·not-nil, List·Memᴰ·cases-cons, List·Memᴰ·eq-of-singleton}
 use mathlib.Core.Option.{Option, none, some}
 use Prim.Native.Nat.{ℕ, _<_, _≤_}
 use native.Mathlib.Omega.{arith}
@@ -12,14 +12,15 @@ use lib.Signed.{leZ, ltZ}
 use borrow.Author.Tests.{leb-false, not-false}
 use Rattle.minutes.specs.Linear.{whole, below}
 use Rattle.board.specs.declared.Refusal.{Refusal}
+use Rattle.board.specs.declared.Refusal.the-variants as Refused
 use Rattle.board.specs.Paper.View.{Side}
 use Rattle.board.specs.Paper.Facts.{Fact, is-bound, is-valid, is-invalid, Known}
 use Rattle.board.specs.Paper.Limits.{IsTime, Fits, jobLimit}
-use Rattle.board.specs.Tests.Live.{and-parts, refuted}
+use Rattle.board.specs.Tests.Live.{and-parts, and-both, refuted}
 use Rattle.board.specs.Tests.Decides.{Decides, _and_}
 use Rattle.board.specs.Tests.LimitsDecided.{decides-between, decides-time, decides-length}
-use Rattle.entries.specs.Paper.Entry.{Entry, addition, arc, mark, cut, number, addedRow, stated}
-use Rattle.entries.specs.Paper.Gate.{Check, isJob, checks, gate}
+use Rattle.entries.specs.Paper.Entry.{Entry, addition, arc, mark, cut, number, addedRow, added, stated}
+use Rattle.entries.specs.Paper.Gate.{Check, line, isJob, checks, gate}
 
 -- the entry is one that a board of n jobs can take
 abbrev pub Allowed : ℕ → Entry → Type 0
@@ -99,3 +100,30 @@ allowed-known n (cut j e d) ok f i = ⊎-elim bound (λ i′. bound (List·Mem�
   where
     bound : {s : Side} {z : ℤ} → f ≡ is-bound s (number j) z → Known n f
     bound e = subst (Known n) (sym e) (ok .0)
+
+-- ---- on a board of more jobs
+
+more-jobs : (n m : ℕ) → n ≤ m → (z : ℤ) → isJob n z ≡ true → isJob m z ≡ true
+more-jobs n m le z t =
+    let (a, b) = and-parts (leZ (pos 0) z) (ltZ z (pos n)) t in
+    and-both (leZ (pos 0) z) (ltZ z (pos m)) a (omega whole)
+
+-- check 2 with a weaker test
+weaker : (t u : Bool) (cs : List Check) → (t ≡ true → u ≡ true)
+    → gate (line Refused.Job (not t) ∷ cs) ≡ none → gate (line Refused.Job (not u) ∷ cs) ≡ none
+unfolding gate
+weaker t u cs h g =
+    let (m, rest) = passed (line Refused.Job (not t)) cs g in
+    rw (h (not-false t m)) rest
+
+-- an arc, mark or cut that meets no refusal of the table meets none on a board of more jobs either
+pub gate-more : (n m : ℕ) → n ≤ m → (e : Entry) → added e ≡ [] → gate (checks n e) ≡ none → gate (checks m e) ≡ none
+gate-more n m le (addition l x d k) none-added g = let z : _≡_ {A = ℕ} 0 1 = cc in absurd (omega arith)
+gate-more n m le (arc a b) none-added g = weaker (isJob n a && isJob n b) (isJob m a && isJob m b) _ both g
+  where
+    both : (isJob n a && isJob n b) ≡ true → (isJob m a && isJob m b) ≡ true
+    both t =
+        let (ja, jb) = and-parts (isJob n a) (isJob n b) t in
+        and-both (isJob m a) (isJob m b) (more-jobs n m le a ja) (more-jobs n m le b jb)
+gate-more n m le (mark j k) none-added g = weaker (isJob n j) (isJob m j) _ (more-jobs n m le j) g
+gate-more n m le (cut j x d) none-added g = weaker (isJob n j) (isJob m j) _ (more-jobs n m le j) g

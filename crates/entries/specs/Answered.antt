@@ -44,10 +44,13 @@ low-checks n (arc a b) = refl
 low-checks n (mark j m) = refl
 low-checks n (cut j e d) = refl
 
+pub by-table-low : (n : ℕ) (e : Entry) (r : Refusal) → gate (checks n e) ≡ some r → numberOf r < 8
+by-table-low n e r g = gate-low (checks n e) r (low-checks n e) g
+
 -- a refusal as impossible is none of the table's
 pub not-by-table : (n : ℕ) (e : Entry) (r : Refusal) → gate (checks n e) ≡ some r → r ≡ Refused.Impossible → ⊥
 not-by-table n e r g q =
-    let below : numberOf Refused.Impossible < 8 = subst (λ x. numberOf x < 8) q (gate-low (checks n e) r (low-checks n e) g) in
+    let below : numberOf Refused.Impossible < 8 = subst (λ x. numberOf x < 8) q (by-table-low n e r g) in
     omega arith
 
 pub not-refused : (n : ℕ) (e : Entry) (r : Refusal) → acceptance n e ≡ Answers.Refused r → ⊥

@@ -10,3 +10,7 @@ pub mod Reached
 pub mod Answered
 pub mod Stepped
 pub mod Played
+-- what follows: the order of entries does not matter, 8 exactly when, and entries without effect
+pub mod Orderless
+pub mod Exactly
+pub mod Unaltered

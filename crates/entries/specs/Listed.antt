@@ -14,7 +14,7 @@ use Rattle.board.specs.Paper.View.{Row, View}
 use Rattle.board.specs.Paper.Facts.{Fact}
 use Rattle.board.specs.Paper.Entries.{Entries, Shown, AtLeast}
 use Rattle.board.specs.Paper.Limits.{zeroRow}
-use Rattle.entries.specs.Paper.Entry.{Entry, addition, arc, mark, cut, addedRow, added, stated, additions, Stated, entries, stating, withEntry}
+use Rattle.entries.specs.Paper.Entry.{Entry, addition, arc, mark, cut, addedRow, added, stated, additions, Stated, entries, SameEntries, stating, withEntry}
 
 -- entries that agree in jobs, rows and facts ask the same of a view
 pub record Agree (es es′ : Entries) : Type 0 where
@@ -88,3 +88,23 @@ agree-snoc l (addition x y d m) =
 agree-snoc l (arc a b) = agree-stating l (arc a b) refl
 agree-snoc l (mark j m) = agree-stating l (mark j m) refl
 agree-snoc l (cut j x d) = agree-stating l (cut j x d) refl
+
+-- an entry that states a fact adds no job
+no-job : (e : Entry) (f : Fact) → List·Memᴰ f (stated e) → added e ≡ []
+no-job (addition l x d m) f i = absurd (List·Memᴰ·not-nil i)
+no-job (arc a b) f i = refl
+no-job (mark j m) f i = refl
+no-job (cut j x d) f i = refl
+
+-- the same jobs in the same order and the same set of other entries ask the same of a board
+pub same-agree : (l l′ : List Entry) → SameEntries l l′ → Agree (entries l) (entries l′)
+same-agree l l′ s =
+    record {
+      jobs = ap length (s .jobs);
+      rows = λ k i. ap (λ rs. getD rs k (zeroRow 0)) (s .jobs);
+      to = λ f x. moved f x (λ e o. s .others e o .0);
+      from = λ f x. moved f x (λ e o. s .others e o .1);
+    }
+  where
+    moved : {l l′ : List Entry} (f : Fact) → Stated l f → ((e : Entry) → added e ≡ [] → List·Memᴰ e l → List·Memᴰ e l′) → Stated l′ f
+    moved f x to = record { entry = x .entry; made = to (x .entry) (no-job (x .entry) f (x .states)) (x .made); states = x .states }

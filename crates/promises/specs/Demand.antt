@@ -1,9 +1,8 @@
 -- Demand 3 for the entry calls: one claim over any list of calls, of any sort, in any manner and with any numbers, refused
 -- ones included, from an empty board with any tally within its limit. The paper's sentence stands over each part.
 use mathlib.Core.Path.{_≡_}
-use mathlib.Core.Logic.{_↔_}
 use mathlib.Core.Bool.{true}
-use mathlib.Core.List.{List, [], _∷_, _++_, List·Memᴰ}
+use mathlib.Core.List.{List, [], _∷_, _++_}
 use Prim.Native.Nat.{ℕ, _≤_}
 use Rattle.board.specs.declared.Board.{Board}
 use Rattle.board.specs.declared.Refusal.the-variants as Refused
@@ -15,15 +14,9 @@ use Rattle.board.specs.Paper.Schedules.{Placing, Schedule, Keeps}
 use Rattle.board.specs.Paper.Equality.{Same}
 use Rattle.closure.specs.Check.{passes}
 use Rattle.entries.specs.declared.Answer.the-variants as Answers
-use Rattle.entries.specs.Paper.Entry.{Entry, added, additions, entries}
+use Rattle.entries.specs.Paper.Entry.{Entry, entries, SameEntries}
 use Rattle.entries.specs.Paper.Exact.{Outcome}
 use Rattle.entries.specs.Paper.Sequence.{Call, outcome, after, accepted}
-
--- "Jobs are the same if their additions name the same length, window and mark; other entries are the same if they are of
--- one sort with the same numbers": the same jobs in the same order, and the same set of other entries.
-pub record SameEntries (l l′ : List Entry) : Type 0 where
-  pub jobs : additions l ≡ additions l′
-  pub others : (e : Entry) → added e ≡ [] → List·Memᴰ e l ↔ List·Memᴰ e l′
 
 -- the board after the calls, from an empty board with tally t
 abbrev pub finalBoard : ℕ → List Call → Board

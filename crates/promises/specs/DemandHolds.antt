@@ -1,32 +1,31 @@
 -- Demand 3 for the entry calls holds of every list of calls, from an empty board with any tally within its limit.
-use mathlib.Core.Path.{_≡_, refl, ap}
-use mathlib.Core.List.{List, [], _∷_, _++_, List·Memᴰ, List·Memᴰ·not-nil}
+use mathlib.Core.Path.{_≡_, refl}
+use mathlib.Core.List.{List, [], _∷_, _++_, List·Memᴰ·not-nil}
 use Prim.Native.Nat.{ℕ, _≤_}
 use native.Mathlib.Omega.{arith}
-use lib.ListN.{length, getD}
 use Rattle.board.specs.declared.Refusal.the-variants as Refused
 use Rattle.board.specs.Paper.View.{View, view}
 use Rattle.board.specs.Paper.Facts.{Fact, Holds}
-use Rattle.board.specs.Paper.Limits.{tallyLimit, Within, emptyBoard, zeroRow}
-use Rattle.board.specs.Tests.Empty.{within-empty}
+use Rattle.board.specs.Paper.Limits.{tallyLimit, emptyBoard}
+use Rattle.board.specs.Tests.Empty.{within-empty, empty-below}
 use Rattle.board.specs.Inference.Infers.{Infers, r1, r2, r3, r45, r6}
 use Rattle.board.specs.Inference.Agrees.{obeys-rules}
-use Rattle.board.specs.Paper.Entries.{Contradiction, Drawn, drawn}
+use Rattle.board.specs.Paper.Entries.{Contradiction}
 use Rattle.board.specs.Order.Leastness.{Impossible, impossible-contradiction}
 use Rattle.board.specs.Paper.Schedules.{Placing, Schedule}
 use Rattle.board.specs.Schedule.Shows.{every-schedule-keeps, no-schedule}
-use Rattle.board.specs.Order.Unique.{same-boards}
 use Rattle.closure.specs.Check.{passes}
 use Rattle.closure.specs.Checked.{obeys-passes}
 use Rattle.entries.specs.declared.Answer.the-variants as Answers
-use Rattle.entries.specs.Paper.Entry.{Entry, addition, arc, mark, cut, added, stated, additions, Stated, entries}
+use Rattle.entries.specs.Paper.Entry.{Entry, additions, Stated, entries}
 use Rattle.entries.specs.Paper.Enter.{enter}
 use Rattle.entries.specs.Answered.{answered-impossible}
-use Rattle.entries.specs.Listed.{Agree, agree-sym, agree-snoc, agreed}
+use Rattle.entries.specs.Listed.{agree-snoc, agreed}
+use Rattle.entries.specs.Orderless.{least-orderless}
 use Rattle.entries.specs.Stepped.{step, outcome, reached-least}
 use Rattle.entries.specs.Played.{Held, proper-snoc, played}
 use Rattle.entries.specs.Paper.Sequence.{Call}
-use Rattle.promises.specs.Demand.{SameEntries, finalBoard, acceptedBy, Demand}
+use Rattle.promises.specs.Demand.{finalBoard, acceptedBy, Demand}
 
 -- a view without jobs infers nothing
 no-inference : (v : View) → v .jobs ≡ 0 → (f : Fact) → Infers v f → Holds v f
@@ -48,22 +47,16 @@ module _ (t : ℕ) (fits : t ≤ tallyLimit) where
         proper = record { positive = λ j l. absurd (omega arith); about = λ f s. absurd (nothing-stated f s) };
         reached =
             record {
-              within = empty;
+              within = within-empty t fits;
               shows =
                   record {
                     count = refl;
                     atLeast = record { jobs = omega arith; rows = λ k l. absurd (omega arith); facts = λ f s. absurd (nothing-stated f s) };
                   };
               obeys = no-inference (view (emptyBoard t)) refl;
-              below = λ w h ob. record { jobs = omega arith; rows = λ k l. absurd (omega arith); facts = undrawn w };
+              below = λ w h ob. empty-below (emptyBoard t) (within-empty t fits) refl w;
             };
       }
-    where
-      empty : Within (emptyBoard t)
-      empty = within-empty t fits
-
-      undrawn : (w : View) (f : Fact) → Drawn (view (emptyBoard t)) f → Holds w f
-      undrawn w _ (drawn i k a) = absurd (omega (arith, empty .arcs i k a .0 .0))
 
   -- the board after the calls is reached by what they accepted
   held : (cs : List Call) → Held (acceptedBy t cs) (finalBoard t cs)
@@ -81,26 +74,6 @@ module _ (t : ℕ) (fits : t ≤ tallyLimit) where
       let proper = proper-snoc l b h e g in
       (impossible-contradiction _ i′, no-schedule _ (proper .positive) (proper .about) i′)
 
--- an entry that states a fact adds no job
-no-job : (e : Entry) (f : Fact) → List·Memᴰ f (stated e) → added e ≡ []
-no-job (addition l x d m) f i = absurd (List·Memᴰ·not-nil i)
-no-job (arc a b) f i = refl
-no-job (mark j m) f i = refl
-no-job (cut j x d) f i = refl
-
--- the same jobs in the same order and the same set of other entries ask the same of a board
-same-agree : (l l′ : List Entry) → SameEntries l l′ → Agree (entries l) (entries l′)
-same-agree l l′ s =
-    record {
-      jobs = ap length (s .jobs);
-      rows = λ k i. ap (λ rs. getD rs k (zeroRow 0)) (s .jobs);
-      to = λ f x. moved f x (λ e o. s .others e o .0);
-      from = λ f x. moved f x (λ e o. s .others e o .1);
-    }
-  where
-    moved : {l l′ : List Entry} (f : Fact) → Stated l f → ((e : Entry) → added e ≡ [] → List·Memᴰ e l → List·Memᴰ e l′) → Stated l′ f
-    moved f x to = record { entry = x .entry; made = to (x .entry) (no-job (x .entry) f (x .states)) (x .made); states = x .states }
-
 pub demand : (t : ℕ) → t ≤ tallyLimit → (cs : List Call) → Demand t cs
 demand t fits cs =
     let h = held t fits cs in
@@ -114,9 +87,5 @@ demand t fits cs =
       joined = obeys-rules _ (r .obeys) .join;
       impossible = λ earlier later c is. contradicted t fits earlier (c .entry);
       orderless = λ t′ cs′ fits′ same.
-          let a = same-agree (acceptedBy t cs) (acceptedBy t′ cs′) same in
-          let r′ = held t′ fits′ cs′ .reached in
-          same-boards _ _ (r .within) (r′ .within)
-          (r .below _ (agreed _ _ _ (agree-sym _ _ a) (r′ .shows .atLeast)) (r′ .obeys))
-          (r′ .below _ (agreed _ _ _ a (r .shows .atLeast)) (r .obeys));
+          least-orderless _ _ _ _ same (reached-least _ _ r) (reached-least _ _ (held t′ fits′ cs′ .reached));
     }

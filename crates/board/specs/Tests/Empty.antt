@@ -1,10 +1,34 @@
--- The board without jobs is within its limits: "its tally may be any within its limit".
+-- "An empty board has no jobs; its tally may be any within its limit": the empty board is within its limits, and is the
+-- only board within them that has no jobs.
+use mathlib.Core.Path.{_≡_, refl}
 use Prim.Native.Nat.{ℕ, _≤_}
+use native.Mathlib.Omega.{arith}
 use borrow.Author.Tests.{le-leb}
+use Rattle.board.specs.declared.Board.{Board}
+use Rattle.board.specs.Paper.View.{View, view}
+use Rattle.board.specs.Paper.Facts.{Fact, Holds}
 use Rattle.board.specs.Paper.Limits.{tallyLimit, Within, emptyBoard}
+use Rattle.board.specs.Paper.Entries.{Drawn, drawn, _⊑_}
+use Rattle.board.specs.Order.Unique.{same-boards, equal-boards}
+use Rattle.board.specs.Update.Extension.{above-self}
 use Rattle.board.specs.Tests.Limits.{all, implies, between, isZero, isZeroRow, full, shape, holdsNothing, withinLimits}
 use Rattle.board.specs.Tests.LimitsDecided.{limits-yes}
 
 pub within-empty : (t : ℕ) → t ≤ tallyLimit → Within (emptyBoard t)
 unfolding all implies between isZero isZeroRow full shape holdsNothing withinLimits
 within-empty t h = limits-yes (emptyBoard t) (rw (le-leb t tallyLimit h))
+
+-- a board without jobs shows nothing, so that it is below every view
+pub empty-below : (b : Board) → Within b → b .jobs ≡ 0 → (w : View) → view b ⊑ w
+empty-below b h empty w =
+    record { jobs = omega arith; rows = λ k l. absurd (omega arith); facts = undrawn }
+  where
+    undrawn : (f : Fact) → Drawn (view b) f → Holds w f
+    undrawn _ (drawn i k a) = absurd (omega (arith, above-self b h .above .facts _ (drawn i k a) .0))
+
+pub empty-only : (b : Board) → Within b → b .jobs ≡ 0 → b ≡ emptyBoard (b .tally)
+empty-only b h empty =
+    let e = emptyBoard (b .tally) in
+    let h′ = within-empty (b .tally) (h .tally) in
+    let same = same-boards b e h h′ (empty-below b h empty (view e)) (empty-below e h′ refl (view b)) in
+    equal-boards b e h h′ (record { same = same; tally = refl })

@@ -1,5 +1,6 @@
 -- The four sorts of entry, with any numbers, and what a list of them states.
-use mathlib.Core.Logic.{_⊎_}
+use mathlib.Core.Path.{_≡_}
+use mathlib.Core.Logic.{_⊎_, _↔_}
 use mathlib.Core.Bool.{cond}
 use mathlib.Core.List.{List, [], _∷_, _++_, List·Memᴰ}
 use Prim.Native.Nat.{ℕ, suc}
@@ -59,6 +60,12 @@ pub record Stated (es : List Entry) (f : Fact) : Type 0 where
 abbrev pub entries : List Entry → Entries
 entries es =
     record { jobs = length (additions es); row = λ k. getD (additions es) k (zeroRow 0); facts = Stated es }
+
+-- "Jobs are the same if their additions name the same length, window and mark; other entries are the same if they are of
+-- one sort with the same numbers": the same jobs in the same order, and the same set of other entries.
+pub record SameEntries (l l′ : List Entry) : Type 0 where
+  pub jobs : additions l ≡ additions l′
+  pub others : (e : Entry) → added e ≡ [] → List·Memᴰ e l ↔ List·Memᴰ e l′
 
 -- a job added after the others
 abbrev pub addRow : Entries → Row → Entries
