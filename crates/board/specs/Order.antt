@@ -2,3 +2,4 @@
 pub mod Laws
 pub mod Leastness
 pub mod Unique
+pub mod Tabulated

@@ -2,3 +2,4 @@
 pub mod Scheduled
 pub mod Obeys
 pub mod Shows
+pub mod Boards

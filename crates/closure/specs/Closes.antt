@@ -35,7 +35,7 @@ ClosedTo b none = (w : View) → view b ⊑ w → Obeys w → ⊥
 
 -- the lengths of valid jobs are not negative
 pub lengths : (b : Board) → Within b → (k : ℕ) → Valid (view b) k → pos 0 ≤ℤ view b .row k .length
-lengths b h k v = omega (whole, h .live k (valid-live (view b) k v) .length .low)
+lengths b h k v = omega (whole, h .limits .rows k .live (v .0) (valid-live (view b) k v .1) .length .low)
 
 done : (b : Board) → Within b → find (view b) ≡ none → Closure b b
 done b h e =

@@ -86,7 +86,7 @@ module _ (b c : Board) (more : Above b c) where
     slack-falls : slack s (rowOf b j) + above (bound s (rowOf b j)) + below (bound s (rowOf c j))
         ≡ slack s (rowOf c j) + above (bound s (rowOf c j)) + below (bound s (rowOf b j))
     slack-falls =
-        let high = bound-time s (rowOf c j) (more .within .live j l) .high in
+        let high = bound-time s (rowOf c j) (more .within .limits .rows j .live (l .0) (l .1)) .high in
         omega (arith, slack-is s (rowOf c j) high, slack-is s (rowOf b j) (omega (whole, rises)))
 
     slack-mono : slack s (rowOf c j) ≤ slack s (rowOf b j)
@@ -115,7 +115,7 @@ module _ (b c : Board) (more : Above b c) where
   job-falls j l h =
       omega (
         arith,
-        count-falls jobLimit _ _ j (omega (arith, more .within .jobs, more .jobs, l .0)) lighter (λ k _. weight-mono k),
+        count-falls jobLimit _ _ j (omega (arith, more .within .limits .jobs, more .jobs, l .0)) lighter (λ k _. weight-mono k),
         count-mono jobLimit _ _ (λ i _. row-mono i),
       )
     where
@@ -133,11 +133,11 @@ module _ (b c : Board) (more : Above b c) where
   arc-falls : (i k : ℕ) → Live (view b) i → Live (view b) k → (Holds (view b) (is-arc i k) → ⊥) → Holds (view c) (is-arc i k) → measure c < measure b
   unfolding measure
   arc-falls i k li lk h (mi, mk, arc) =
-      let row = count-falls jobLimit _ _ k (omega (arith, more .within .jobs)) drawn λ m _. missing-mono i m in
+      let row = count-falls jobLimit _ _ k (omega (arith, more .within .limits .jobs)) drawn λ m _. missing-mono i m in
       omega (
         arith,
         count-mono jobLimit _ _ (λ j _. weight-mono j),
-        count-falls jobLimit _ _ i (omega (arith, more .within .jobs)) row (λ m _. row-mono m),
+        count-falls jobLimit _ _ i (omega (arith, more .within .limits .jobs)) row (λ m _. row-mono m),
       )
     where
       before : lacking (view b) i k ≡ true
@@ -164,7 +164,8 @@ measure-bound b w =
   where
     job : (j : ℕ) → weight (view b) j ≤ 2000001
     job j = cond-mono (live (view b) j) true λ e.
-        let f = w .live j (live-yes (view b) j e) in
+        let (l, m) = live-yes (view b) j e in
+        let f = w .limits .rows j .live l m in
         (refl, omega (arith, slack-bound early (rowOf b j) f, slack-bound late (rowOf b j) f))
 
     row : (i : ℕ) → count jobLimit (missing (view b) i) ≤ jobLimit

@@ -4,13 +4,14 @@ use mathlib.Core.List.{List, [], _∷_, _++_, append-assoc, append-nil}
 use mathlib.Core.Option.{none}
 use Prim.Native.Nat.{ℕ}
 use Rattle.board.specs.declared.Board.{Board}
+use Rattle.board.specs.Paper.Entries.{Admissible}
 use Rattle.entries.specs.declared.Entered.{Entered}
 use Rattle.entries.specs.Paper.Entry.{Entry, addition, arc, mark, cut, entries, withEntry}
 use Rattle.entries.specs.Paper.Gate.{checks, gate}
 use Rattle.entries.specs.Listed.{agree-snoc, agree-sym}
 use Rattle.entries.specs.Allowed.{Allowed, gate-allows}
 use Rattle.entries.specs.Paper.Enter.{acceptance, enter}
-use Rattle.entries.specs.Reached.{Proper, Reached, proper-with, proper-agree, reached-agree, reached-counted}
+use Rattle.entries.specs.Reached.{Reached, admissible-with, admissible-agree, reached-agree, reached-counted}
 use Rattle.entries.specs.Stepped.{Step, step}
 use Rattle.entries.specs.Paper.Exact.{by-table, impossible, accepted}
 use Rattle.entries.specs.Paper.Sequence.{Call, outcome, after, kept}
@@ -18,7 +19,7 @@ use Rattle.entries.specs.Paper.Sequence
 
 -- the board was reached by entries that passed the checks
 pub record Held (l : List Entry) (b : Board) : Type 0 where
-  pub proper : Proper (entries l)
+  pub admissible : Admissible (entries l)
   pub reached : Reached (entries l) b
 
 -- an accepted entry is kept
@@ -29,20 +30,20 @@ accepted-kept n (mark j m) = refl
 accepted-kept n (cut j x d) = refl
 
 module _ (l : List Entry) (b : Board) (h : Held l b) where
-  -- an entry that meets none of the checks is proper after the others
-  pub proper-snoc : (e : Entry) → gate (checks (b .jobs) e) ≡ none → Proper (entries (l ++ e ∷ []))
-  proper-snoc e g =
-      proper-agree (withEntry (entries l) e) (entries (l ++ e ∷ [])) (agree-sym _ _ (agree-snoc l e))
-      (proper-with (entries l) e (h .proper) (subst (λ n. Allowed n e) (h .reached .shows .count) (gate-allows (b .jobs) e g)))
+  -- an entry that meets none of the checks may follow the others
+  pub admissible-snoc : (e : Entry) → gate (checks (b .jobs) e) ≡ none → Admissible (entries (l ++ e ∷ []))
+  admissible-snoc e g =
+      admissible-agree (withEntry (entries l) e) (entries (l ++ e ∷ [])) (agree-sym _ _ (agree-snoc l e))
+      (admissible-with (entries l) e (h .admissible) (subst (λ n. Allowed n e) (h .reached .shows .count) (gate-allows (b .jobs) e g)))
 
   one-more : (e : Entry) (x : Entered) → Step (entries l) b e x → Held (l ++ kept (x .answer) e) (x .board)
   one-more e _ (by-table r g) = rw append-nil h
   one-more e _ (impossible g i) =
-      rw append-nil (record { proper = h .proper; reached = reached-counted (entries l) b (h .reached) })
+      rw append-nil (record { admissible = h .admissible; reached = reached-counted (entries l) b (h .reached) })
   one-more e _ (accepted g c r t) =
       rw (accepted-kept (b .jobs) e)
       (record {
-        proper = proper-snoc e g;
+        admissible = admissible-snoc e g;
         reached = reached-agree _ _ c (agree-sym _ _ (agree-snoc l e)) r;
       })
 

@@ -2,36 +2,26 @@
 -- leads to such a board again, and an entry refused as impossible leaves none that shows it.
 use mathlib.Core.Path.{_≡_, _∙_, subst, subst⁻¹}
 use mathlib.Core.Logic.{_≢_, ⊎-elim}
-use mathlib.Core.Bool.{cond}
 use mathlib.Core.List.{List, List·Memᴰ}
 use mathlib.Core.Option.{none}
 use Prim.Native.Nat.{ℕ, suc, _<_}
 use native.Mathlib.Omega.{arith}
 use native.Mathlib.Decide.{ℕ-discrete}
-use lib.Dec.{eqb}
-use lib.IntN.{pos}
-use lib.Signed.{_≤ℤ_}
 use borrow.Author.Tests.{eq-eqb, ne-eqb}
 use Rattle.board.specs.declared.Board.{Board}
 use Rattle.board.specs.Paper.View.{Row, View, view}
 use Rattle.board.specs.Paper.Facts.{Fact, is-arc, is-bound, is-valid, is-invalid, Known}
 use Rattle.board.specs.Inference.Infers.{Obeys}
-use Rattle.board.specs.Paper.Entries.{Entries, Shows, shown}
-use Rattle.board.specs.Paper.Limits.{Within, Fits}
+use Rattle.board.specs.Paper.Entries.{Entries, Admissible, Shows, shown}
+use Rattle.board.specs.Paper.Limits.{jobLimit, Fits, Within}
 use Rattle.board.specs.Order.Leastness.{Below, Impossible}
 use Rattle.board.specs.Order.Laws.{atLeast-up}
-use Rattle.board.specs.Schedule.Scheduled.{Positive, AboutAdded}
 use Rattle.entries.specs.Paper.Entry.{Entry, addition, arc, mark, cut, addedRow, stated, addRow, stating, withEntry}
 use Rattle.entries.specs.Made.{ShowsEntry, with-split, with-join, with-jobs}
 use Rattle.entries.specs.Listed.{Agree, agree-sym, agreed}
 use Rattle.entries.specs.Allowed.{Allowed, allowed-known}
 use Rattle.entries.specs.Paper.Enter.{counted}
 use Rattle.entries.specs.Settles.{Settled, SettledTo}
-
--- entries that passed the checks: lengths of at least 1, and facts about jobs added
-pub record Proper (es : Entries) : Type 0 where
-  pub positive : Positive es
-  pub about : AboutAdded es
 
 -- no limit but its own reads the tally
 within-counted : (b : Board) → Within b → Within (counted b)
@@ -47,14 +37,9 @@ within-counted b h =
             after = s .after;
             before = s .before;
           };
-      jobs = h .jobs;
-      tally = omega arith;
-      marks = h .marks;
-      live = h .live;
-      invalid = h .invalid;
-      blank = h .blank;
-      arcs = h .arcs;
+      limits = h .limits;
       twice = h .twice;
+      tally = omega arith;
     }
 
 pub record Reached (es : Entries) (b : Board) : Type 0 where
@@ -69,31 +54,31 @@ known-more n (is-bound s j z) h = omega arith
 known-more n (is-valid j) h = omega arith
 known-more n (is-invalid j) h = omega arith
 
-proper-row : (es : Entries) (r : Row) → Proper es → Fits r → Proper (addRow es r)
-proper-row es r h fits = record { positive = long; about = λ f i. known-more (es .jobs) f (h .about f i) }
+admissible-row : (es : Entries) (r : Row) → Admissible es → es .jobs < jobLimit → Fits r → Admissible (addRow es r)
+admissible-row es r h free fits =
+    record { jobs = free; rows = λ k l. row k l (ℕ-discrete k (es .jobs)); about = λ f i. known-more (es .jobs) f (h .about f i) }
   where
-    long : Positive (addRow es r)
-    long k l = go (ℕ-discrete k (es .jobs))
-      where
-        go : Dec (k ≡ es .jobs) → cond (eqb k (es .jobs)) r (es .row k) .mark ≢ 2 → pos 1 ≤ℤ cond (eqb k (es .jobs)) r (es .row k) .length
-        go (yes e) = rw (eq-eqb k (es .jobs) e) λ n. fits .length .low
-        go (no n) = rw (ne-eqb k (es .jobs) n) (h .positive k (omega (arith, n)))
+    row : (k : ℕ) → k < suc (es .jobs) → Dec (k ≡ es .jobs) → addRow es r .row k .mark ≢ 2 → Fits (addRow es r .row k)
+    row k l (yes e) = rw (eq-eqb k (es .jobs) e) λ n. fits
+    row k l (no n) = rw (ne-eqb k (es .jobs) n) (h .rows k (omega (arith, n)))
 
-proper-stated : (es : Entries) (fs : List Fact) → Proper es → ((f : Fact) → List·Memᴰ f fs → Known (es .jobs) f) → Proper (stating es fs)
-proper-stated es fs h k = record { positive = h .positive; about = λ f. ⊎-elim (h .about f) (k f) }
+admissible-stated : (es : Entries) (fs : List Fact) → Admissible es → ((f : Fact) → List·Memᴰ f fs → Known (es .jobs) f)
+    → Admissible (stating es fs)
+admissible-stated es fs h k = record { jobs = h .jobs; rows = h .rows; about = λ f. ⊎-elim (h .about f) (k f) }
 
-pub proper-with : (es : Entries) (e : Entry) → Proper es → Allowed (es .jobs) e → Proper (withEntry es e)
-proper-with es (addition l x d m) h ok = proper-row es (addedRow l x d m) h (ok .1)
-proper-with es (arc a b) h ok = proper-stated es (stated (arc a b)) h (allowed-known (es .jobs) (arc a b) ok)
-proper-with es (mark j m) h ok = proper-stated es (stated (mark j m)) h (allowed-known (es .jobs) (mark j m) ok)
-proper-with es (cut j x d) h ok = proper-stated es (stated (cut j x d)) h (allowed-known (es .jobs) (cut j x d) ok)
+pub admissible-with : (es : Entries) (e : Entry) → Admissible es → Allowed (es .jobs) e → Admissible (withEntry es e)
+admissible-with es (addition l x d m) h ok = admissible-row es (addedRow l x d m) h (ok .0) (ok .1)
+admissible-with es (arc a b) h ok = admissible-stated es (stated (arc a b)) h (allowed-known (es .jobs) (arc a b) ok)
+admissible-with es (mark j m) h ok = admissible-stated es (stated (mark j m)) h (allowed-known (es .jobs) (mark j m) ok)
+admissible-with es (cut j x d) h ok = admissible-stated es (stated (cut j x d)) h (allowed-known (es .jobs) (cut j x d) ok)
 
-pub proper-agree : (es es′ : Entries) → Agree es es′ → Proper es → Proper es′
-proper-agree es es′ a h =
+pub admissible-agree : (es es′ : Entries) → Agree es es′ → Admissible es → Admissible es′
+admissible-agree es es′ a h =
     record {
-      positive = λ k l.
+      jobs = omega (arith, a .jobs, h .jobs);
+      rows = λ k l.
           let l′ : k < es .jobs = omega (arith, a .jobs) in
-          subst (λ r. r .mark ≢ 2 → pos 1 ≤ℤ r .length) (a .rows k l′) (h .positive k l′);
+          subst (λ r. r .mark ≢ 2 → Fits r) (a .rows k l′) (h .rows k l′);
       about = λ f i. subst (λ n. Known n f) (a .jobs) (h .about f (a .from f i));
     }
 

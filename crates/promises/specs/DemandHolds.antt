@@ -11,9 +11,9 @@ use Rattle.board.specs.Tests.Empty.{within-empty, empty-below}
 use Rattle.board.specs.Inference.Infers.{Infers, r1, r2, r3, r45, r6}
 use Rattle.board.specs.Inference.Agrees.{obeys-rules}
 use Rattle.board.specs.Paper.Entries.{Contradiction}
-use Rattle.board.specs.Order.Leastness.{Impossible, impossible-contradiction}
+use Rattle.board.specs.Order.Leastness.{impossible-contradiction}
 use Rattle.board.specs.Paper.Schedules.{Placing, Schedule}
-use Rattle.board.specs.Schedule.Shows.{every-schedule-keeps, no-schedule}
+use Rattle.board.specs.Schedule.Boards.{least-keeps, contradiction-unscheduled}
 use Rattle.closure.specs.Check.{passes}
 use Rattle.closure.specs.Checked.{obeys-passes}
 use Rattle.entries.specs.declared.Answer.the-variants as Answers
@@ -23,7 +23,7 @@ use Rattle.entries.specs.Answered.{answered-impossible}
 use Rattle.entries.specs.Listed.{agree-snoc, agreed}
 use Rattle.entries.specs.Orderless.{least-orderless}
 use Rattle.entries.specs.Stepped.{step, outcome, reached-least}
-use Rattle.entries.specs.Played.{Held, proper-snoc, played}
+use Rattle.entries.specs.Played.{Held, admissible-snoc, played}
 use Rattle.entries.specs.Paper.Sequence.{Call}
 use Rattle.promises.specs.Demand.{finalBoard, acceptedBy, Demand}
 
@@ -44,7 +44,7 @@ module _ (t : ℕ) (fits : t ≤ tallyLimit) where
   unfolding additions
   held-empty =
       record {
-        proper = record { positive = λ j l. absurd (omega arith); about = λ f s. absurd (nothing-stated f s) };
+        admissible = record { jobs = omega arith; rows = λ k l. absurd (omega arith); about = λ f s. absurd (nothing-stated f s) };
         reached =
             record {
               within = within-empty t fits;
@@ -70,20 +70,20 @@ module _ (t : ℕ) (fits : t ≤ tallyLimit) where
       let l = acceptedBy t cs in
       let b = finalBoard t cs in
       let (g, i) = answered-impossible b e _ _ (enter b e) (step (entries l) b e (h .reached)) q in
-      let i′ : Impossible (entries (l ++ e ∷ [])) = λ w a. i w (agreed _ _ w (agree-snoc l e) a) in
-      let proper = proper-snoc l b h e g in
-      (impossible-contradiction _ i′, no-schedule _ (proper .positive) (proper .about) i′)
+      let none = impossible-contradiction (entries (l ++ e ∷ [])) λ w a. i w (agreed _ _ w (agree-snoc l e) a) in
+      (none, contradiction-unscheduled _ (admissible-snoc l b h e g) none)
 
 pub demand : (t : ℕ) → t ≤ tallyLimit → (cs : List Call) → Demand t cs
 demand t fits cs =
     let h = held t fits cs in
     let r = h .reached in
+    let least = reached-least _ _ r in
     record {
       within = r .within;
       passes = obeys-passes (finalBoard t cs) (r .within) (r .obeys);
-      least = reached-least _ _ r;
+      least = least;
       answers = λ earlier later c is. outcome _ _ (c .entry) (held t fits earlier .reached);
-      nothingLost = every-schedule-keeps _ _ (h .proper .positive) (h .proper .about) (r .shows .count) (r .below);
+      nothingLost = least-keeps _ _ (h .admissible) least;
       joined = obeys-rules _ (r .obeys) .join;
       impossible = λ earlier later c is. contradicted t fits earlier (c .entry);
       orderless = λ t′ cs′ fits′ same.

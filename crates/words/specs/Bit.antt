@@ -1,7 +1,7 @@
 -- A set of jobs as one number: bit k is 1 where job k is in the set. `difference` and `without` complement a set, so they
 -- take the width n that the sets fit. What these definitions mean for the members is in BitLaws. Assumes nothing.
-use Prim.Native.Nat.{ℕ, _-_, _/_, _%_, _^_}
-use mathlib.Core.Bool.{Bool}
+use Prim.Native.Nat.{ℕ, zero, suc, _+_, _-_, _*_, _/_, _%_, _^_}
+use mathlib.Core.Bool.{Bool, cond}
 use lib.Bits.{bitAnd, bitOr}
 use lib.Dec.{eqb}
 
@@ -26,3 +26,8 @@ with w k = union w (singleton k)
 
 unfoldable pub without : ℕ → ℕ → ℕ → ℕ
 without n w k = difference n w (singleton k)
+
+-- the jobs below n that pass the test: the lowest bit is for job 0
+unfoldable pub setOf : ℕ → (ℕ → Bool) → ℕ
+setOf zero t = 0
+setOf (suc n) t = cond (t 0) 1 0 + 2 * setOf n (λ k. t (suc k))

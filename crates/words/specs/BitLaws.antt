@@ -8,9 +8,10 @@ use native.Mathlib.Nat.{div-eq-of-lt, div-one, lt-of-lt-of-le, lt-of-le-of-lt, m
 use native.Mathlib.Omega.{arith}
 use lib.Arith.{bin-ind}
 use lib.Bits.{bitAnd, bitOr, and-le-l, and-mask, and-mod, and-shr, or-lt, or-mod, or-shr}
-use lib.Dec.{eqb, eqb·zero-suc, eqb·suc-zero, eqb·suc-suc}
+use lib.Dec.{eqb, ltb, eqb·zero-suc, eqb·suc-zero, eqb·suc-suc, leb·suc-zero, leb·suc-suc}
+use borrow.Author.Tests.{lt-ltb, eq-eqb, ne-eqb}
 use lib.Pow.{pow-lt, pow-mono, pow-pos, shr-shr, split}
-use Rattle.words.specs.Bit.{bit, singleton, union, intersection, difference, with, without}
+use Rattle.words.specs.Bit.{bit, singleton, union, intersection, difference, with, without, setOf}
 
 -- ---- digits
 
@@ -165,6 +166,24 @@ bit-without n w j k h l =
 pub without-lt : (n w j : ℕ) → w < 2 ^ n → without n w j < 2 ^ n
 unfolding without
 without-lt n w j h = difference-lt n w (singleton j) h
+
+-- ---- the set of those that pass a test
+
+lowest : (s : Bool) (w : ℕ) → bit (cond s 1 0 + 2 * w) 0 ≡ s
+lowest true w = bit-low (1 + 2 * w) ∙ eq-eqb ((1 + 2 * w) % 2) 1 (omega arith)
+lowest false w = bit-low (0 + 2 * w) ∙ ne-eqb ((0 + 2 * w) % 2) 1 (λ e. omega arith)
+
+others : (s : Bool) (w k : ℕ) → bit (cond s 1 0 + 2 * w) (suc k) ≡ bit w k
+others true w k = sym (bit-half (1 + 2 * w) k) ∙ ap (λ (x : ℕ). bit x k) (omega arith)
+others false w k = sym (bit-half (0 + 2 * w) k) ∙ ap (λ (x : ℕ). bit x k) (omega arith)
+
+pub bit-setOf : (n : ℕ) (t : ℕ → Bool) (k : ℕ) → bit (setOf n t) k ≡ (ltb k n && t k)
+unfolding setOf
+bit-setOf zero t k = bit-zero k ∙ rw (leb·suc-zero k)
+bit-setOf (suc n) t zero = lowest (t 0) (setOf n (λ k. t (suc k))) ∙ rw (lt-ltb 0 (suc n) (omega arith))
+bit-setOf (suc n) t (suc k) =
+    let u : ℕ → Bool = λ j. t (suc j) in
+    others (t 0) (setOf n u) k ∙ bit-setOf n u k ∙ rw (leb·suc-suc (suc k) n)
 
 -- ---- the code's shifts and masks
 

@@ -1,5 +1,5 @@
--- "Only an entry makes a job valid": the rules have valid jobs in their premises alone, so a view that obeys them still
--- does with one valid mark taken back, and a least view has no valid mark that no entry states.
+-- "Only an entry makes a job valid": the rules have valid jobs in their premises alone, so a board that keeps them still
+-- does with one valid mark taken back, and the least closed board has no valid mark that no entry states.
 use mathlib.Core.Path.{_≡_, refl, subst}
 use mathlib.Core.Logic.{_≢_}
 use mathlib.Core.Bool.{Bool, true, false, cond}
@@ -7,23 +7,25 @@ use Prim.Native.Nat.{ℕ, _<_}
 use native.Mathlib.Omega.{arith}
 use lib.Dec.{eqb}
 use borrow.Author.Tests.{eqb-true, eqb-false}
-use Rattle.minutes.specs.Linear.{is-true}
-use Rattle.board.specs.Paper.View.{Row, View, Live, Valid, Side, early, late, bound, Beyond}
+use Rattle.board.specs.declared.Board.{Board}
+use Rattle.board.specs.Paper.View.{Row, View, Live, Valid, Side, early, late, bound, Beyond, view}
 use Rattle.board.specs.Paper.Facts.{Fact, is-arc, is-bound, is-valid, is-invalid, Holds}
+use Rattle.board.specs.Paper.Limits.{RowLimits, Limited}
 use Rattle.board.specs.Inference.Infers.{Infers, r1, r2, r3, r45, r6, Obeys}
-use Rattle.board.specs.Paper.Entries.{Entries, Shown, AtLeast}
+use Rattle.board.specs.Paper.Entries.{Entries, Shown, Shows, _⊑_, Closed, Least}
 use Rattle.board.specs.Order.Laws.{valid-up}
-use Rattle.board.specs.Order.Leastness.{Below}
-use Rattle.board.specs.Tests.Live.{refuted}
+use Rattle.board.specs.Order.Tabulated.{closed-board, least-below}
+use Rattle.board.specs.Update.Limits.{live-row}
+use Rattle.board.specs.Inference.Agrees.{rules-obey}
+
+-- r with another mark
+abbrev marked : ℕ → Row → Row
+marked m r = record { mark = m; length = r .length; earliest = r .earliest; latest = r .latest }
 
 -- v with the mark of job j taken back to undecided
 abbrev undecided : View → ℕ → View
-undecided v j = record { jobs = v .jobs; row = row; arc = v .arc }
-  where
-    row : ℕ → Row
-    row k =
-        let r = v .row k in
-        record { mark = cond (eqb j k) 0 (r .mark); length = r .length; earliest = r .earliest; latest = r .latest }
+undecided v j =
+    record { jobs = v .jobs; row = λ k. marked (cond (eqb j k) 0 (v .row k .mark)) (v .row k); arc = v .arc }
 
 -- no rule infers that a job is valid
 never-valid : {v : View} {k : ℕ} → Infers v (is-valid k) → ⊥
@@ -33,16 +35,22 @@ module _ (v : View) (j : ℕ) (valid : Valid v j) where
   abbrev w : View
   w = undecided v j
 
-  -- what holds of 0 at j, and of the old mark elsewhere, holds of the new mark
-  mark-cases : (P : ℕ → Type 0) (k : ℕ) → (j ≡ k → P 0) → (j ≢ k → P (v .row k .mark)) → P (w .row k .mark)
-  mark-cases P k p q = go (eqb j k) refl
+  -- what holds of the undecided row at j, and of the old row elsewhere, holds of the new row
+  row-cases : (P : Row → Type 0) (k : ℕ) → (j ≡ k → P (marked 0 (v .row k))) → (j ≢ k → P (v .row k)) → P (w .row k)
+  row-cases P k p q = go (eqb j k) refl
     where
-      go : (t : Bool) → eqb j k ≡ t → P (cond t 0 (v .row k .mark))
+      go : (t : Bool) → eqb j k ≡ t → P (marked (cond t 0 (v .row k .mark)) (v .row k))
       go true e = p (eqb-true j k e)
       go false e = q (eqb-false j k e)
 
+  mark-cases : (P : ℕ → Type 0) (k : ℕ) → (j ≡ k → P 0) → (j ≢ k → P (v .row k .mark)) → P (w .row k .mark)
+  mark-cases P = row-cases (λ r. P (r .mark))
+
   invalid-kept : (k : ℕ) → v .row k .mark ≡ 2 → w .row k .mark ≡ 2
   invalid-kept k h = mark-cases (λ m. m ≡ 2) k (λ e. absurd (omega (arith, rw e at (valid .1)))) (λ n. h)
+
+  live-kept : (k : ℕ) → Live v k → Live w k
+  live-kept k (l, h) = (l, mark-cases (λ m. m ≢ 2) k (λ e z. omega arith) (λ n. h))
 
   live-back : (k : ℕ) → Live w k → Live v k
   live-back k (l, h) = (l, λ e. h (invalid-kept k e))
@@ -98,22 +106,53 @@ module _ (v : View) (j : ℕ) (valid : Valid v j) where
   not-valid : Valid w j → ⊥
   not-valid (l, h) = mark-cases (λ m. m ≡ 1 → ⊥) j (λ e z. omega arith) (λ n z. n refl) h
 
-module _ (es : Entries) (v : View) (atLeast : AtLeast es v) (obeys : Obeys v) (below : Below es v) where
-  -- a job that no entry states valid is not valid
-  pub not-entered : (j : ℕ) → (j < es .jobs → es .row j .mark ≢ 1) → (es .facts (is-valid j) → ⊥) → Valid v j → ⊥
-  not-entered j unmarked unstated valid =
-      not-valid v j valid (valid-up v (undecided v j) (below (undecided v j) shows (obeys-kept v j valid obeys)) j valid)
+  limited-kept : Limited v → Limited w
+  limited-kept limits =
+      record {
+        jobs = limits .jobs;
+        rows = λ k. row-cases (RowLimits (v .jobs) k) k (taken-back k) (λ n. limits .rows k);
+        arcs = λ i k a. let (li, lk, ne) = limits .arcs i k a in (live-kept i li, live-kept k lk, ne);
+      }
     where
-      shows : AtLeast es (undecided v j)
-      shows =
-          record {
-            jobs = atLeast .jobs;
-            rows = λ k l. shown-kept v j valid (es .row k) k (λ e. subst (λ i. i < es .jobs → es .row i .mark ≢ 1) e unmarked l) (atLeast .rows k l);
-            facts = λ f e. holds-kept v j valid f (λ q. unstated (rw q at e)) (atLeast .facts f e);
-          }
+      taken-back : (k : ℕ) → j ≡ k → RowLimits (v .jobs) k (marked 0 (v .row k))
+      taken-back k e =
+          let fits = limits .rows k .live (omega arith) λ m. omega (arith, rw e at (valid .1)) in
+          live-row (v .jobs) k (marked 0 (v .row k)) (omega arith) (omega arith)
+          (record { length = fits .length; earliest = fits .earliest; latest = fits .latest })
 
-  -- a set that holds every job entered as valid holds every valid job
-  pub only-entries : (stated : ℕ → Bool) → ((j : ℕ) → j < es .jobs → es .row j .mark ≡ 1 → stated j ≡ true)
-      → ((j : ℕ) → es .facts (is-valid j) → stated j ≡ true) → (j : ℕ) → Valid v j → stated j ≡ true
-  only-entries stated rows facts j valid =
-      is-true (stated j) λ e. not-entered j (λ l m. refuted e (rows j l m)) (λ f. refuted e (facts j f)) valid
+-- a job that no entry states valid is not valid on the least closed board
+pub least-entered : (es : Entries) (b : Board) → Least es b
+    → (j : ℕ) → (j < es .jobs → es .row j .mark ≢ 1) → (es .facts (is-valid j) → ⊥) → Valid (view b) j → ⊥
+least-entered es b least j unmarked unstated valid = not-valid v j valid (valid-up v w up j valid)
+  where
+    v : View
+    v = view b
+
+    w : View
+    w = undecided v j
+
+    closed : Closed es b
+    closed = least .closed
+
+    limits : Limited w
+    limits = limited-kept v j valid (closed .within .limits)
+
+    shows : Shows es w
+    shows =
+        let old = closed .shows .atLeast in
+        record {
+          count = closed .shows .count;
+          atLeast =
+              record {
+                jobs = old .jobs;
+                rows = λ k l.
+                    shown-kept v j valid (es .row k) k (λ e. subst (λ i. i < es .jobs → es .row i .mark ≢ 1) e unmarked l)
+                    (old .rows k l);
+                facts = λ f e. holds-kept v j valid f (λ q. unstated (rw q at e)) (old .facts f e);
+              };
+        }
+
+    up : v ⊑ w
+    up =
+        least-below es b least w limits
+        (closed-board es w limits shows (obeys-kept v j valid (rules-obey v (closed .rules))))

@@ -13,6 +13,17 @@ pub shown-refl : (r : Row) → Shown r r
 shown-refl r =
     record { valid = λ e. e; invalid = λ e. e; length = λ l. refl; earliest = λ l. omega whole; latest = λ l. omega whole }
 
+-- an invalid job shows every row but a valid one
+pub shown-invalid : (r s : Row) → r .mark ≢ 1 → s .mark ≡ 2 → Shown r s
+shown-invalid r s m e =
+    record {
+      valid = λ v. absurd (m v);
+      invalid = λ _. e;
+      length = λ l. absurd (l e);
+      earliest = λ l. absurd (l e);
+      latest = λ l. absurd (l e);
+    }
+
 pub shown-trans : {r s t : Row} → Shown r s → Shown s t → Shown r t
 shown-trans {r} {s} {t} h k =
     let live : t .mark ≢ 2 → s .mark ≢ 2 = λ l e. l (k .invalid e) in

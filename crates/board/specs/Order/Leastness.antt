@@ -34,7 +34,7 @@ pub handed-in : (b : Board) → Within b → Rules (view b) → Least (shown (vi
 handed-in b within rules = below-least (shown (view b)) b closed (below-shown (view b))
   where
     ends : (i k : ℕ) → Arc (view b) i k → (i < b .jobs) × (k < b .jobs)
-    ends i k a = let (li, lk, ne) = within .arcs i k a in (li .0, lk .0)
+    ends i k a = let (li, lk, ne) = within .limits .arcs i k a in (li .0, lk .0)
 
     closed : Closed (shown (view b)) b
     closed = record { within = within; shows = record { count = refl; atLeast = ⊑-refl (view b) ends }; rules = rules }

@@ -15,7 +15,7 @@ use Rattle.board.specs.Paper.View.{Row, Live, Arc, view, rowOf, arcOf}
 use Rattle.board.specs.Paper.Limits.{Within}
 use Rattle.board.specs.Paper.Equality.{Same, EqualBoards}
 use Rattle.board.specs.Paper.Entries.{Entries, Shown, _⊑_, Least}
-use Rattle.board.specs.Order.Laws.{live-down, invalid-up, arc-up}
+use Rattle.board.specs.Order.Laws.{live-down, arc-up}
 
 -- two tests that imply each other agree
 agree : (p q : Bool) → (p ≡ true → q ≡ true) → (q ≡ true → p ≡ true) → p ≡ q
@@ -45,7 +45,7 @@ live-rows r s br bs lr ls up down =
 -- an arc joins live jobs, and they are live on the other board too
 arc-across : (b c : Board) → Within b → view b ⊑ view c → view c ⊑ view b → (i k : ℕ) → Arc (view b) i k → Arc (view c) i k
 arc-across b c wb up down i k a =
-    let (li, lk, ne) = wb .arcs i k a in
+    let (li, lk, ne) = wb .limits .arcs i k a in
     let live : (j : ℕ) → Live (view b) j → Live (view c) j = λ j l. live-down (view c) (view b) down j (omega (arith, up .jobs, l .0)) l in
     arc-up (view b) (view c) up i k a (live i li) (live k lk)
 
@@ -61,12 +61,12 @@ same-boards b c wb wc up down =
     jobs = omega (arith, up .jobs, down .jobs)
 
     row : (k : ℕ) → Dec (k < b .jobs) → Dec (rowOf b k .mark ≡ 2) → rowOf b k ≡ rowOf c k
-    row k (no n) d = wb .blank k (omega arith) ∙ sym (wc .blank k (omega (arith, jobs)))
-    row k (yes l) (yes e) = wb .invalid k (l, e) ∙ sym (wc .invalid k (invalid-up (view b) (view c) up k (l, e)))
+    row k (no n) d = wb .limits .rows k .blank (omega arith) ∙ sym (wc .limits .rows k .blank (omega (arith, jobs)))
+    row k (yes l) (yes e) = wb .limits .rows k .invalid l e ∙ sym (wc .limits .rows k .invalid (omega (arith, jobs)) (up .rows k l .invalid e))
     row k (yes l) (no n) =
         let h = up .rows k l in
         let g = down .rows k (omega (arith, jobs)) in
-        live-rows (rowOf b k) (rowOf c k) (wb .marks k) (wc .marks k) n (λ e. n (g .invalid e)) h g
+        live-rows (rowOf b k) (rowOf c k) (wb .limits .rows k .mark) (wc .limits .rows k .mark) n (λ e. n (g .invalid e)) h g
 
 pub equal-boards : (b c : Board) → Within b → Within c → EqualBoards b c → b ≡ c
 equal-boards b c wb wc e =

@@ -5,15 +5,22 @@ use Prim.Native.Nat.{ℕ, _<_, _≤_}
 use lib.Signed.{_≤ℤ_}
 use Rattle.board.specs.declared.Board.{Board}
 use Rattle.board.specs.Paper.View.{Row, View, Arc, view}
-use Rattle.board.specs.Paper.Facts.{Fact, is-arc, Holds}
+use Rattle.board.specs.Paper.Facts.{Fact, is-arc, Holds, Known}
 use Rattle.board.specs.Paper.Rules.{Rules}
-use Rattle.board.specs.Paper.Limits.{Within}
+use Rattle.board.specs.Paper.Limits.{jobLimit, Fits, Within}
 
 -- The jobs added, in order, each with its length, window and mark, and a set of facts stated of them.
 pub record Entries : Type 1 where
   pub jobs : ℕ
   pub row : ℕ → Row
   pub facts : Fact → Type 0
+
+-- Entries that pass the checks of the table: no more jobs than a board holds, lengths and times within the limits, and
+-- facts about jobs added. A row marked 2 is that of a board handed in, and holds no length or time.
+pub record Admissible (es : Entries) : Type 0 where
+  pub jobs : es .jobs ≤ jobLimit
+  pub rows : (k : ℕ) → k < es .jobs → es .row k .mark ≢ 2 → Fits (es .row k)
+  pub about : (f : Fact) → es .facts f → Known (es .jobs) f
 
 -- The board's row s shows the entered row r: "with their lengths, with every mark of 1 or 2 [..] and with windows inside
 -- all those entered"; of an invalid job the length and the window count as shown.

@@ -1,12 +1,12 @@
 -- "These limits belong to the board's own type": which boards are within their limits, and the board without jobs.
 use mathlib.Core.Path.{_≡_}
 use mathlib.Core.Logic.{_≢_}
-use Prim.Native.Nat.{ℕ, _≤_}
+use Prim.Native.Nat.{ℕ, _<_, _≤_}
 use lib.IntN.{ℤ, pos, negsuc}
 use lib.Signed.{_≤ℤ_}
 use lib.ListN.{length, replicate}
 use Rattle.board.specs.declared.Board.{Board}
-use Rattle.board.specs.Paper.View.{Row, Live, Invalid, Arc, view, rowOf, arcOf, arcIntoOf}
+use Rattle.board.specs.Paper.View.{Row, View, Live, Arc, view, arcOf, arcIntoOf}
 
 -- "A board holds at most 64 jobs"; the tally "stops at 1000000"
 abbrev pub jobLimit : ℕ
@@ -35,6 +35,23 @@ pub record Fits (r : Row) : Type 0 where
 abbrev pub zeroRow : ℕ → Row
 zeroRow m = record { mark = m; length = pos 0; earliest = pos 0; latest = pos 0 }
 
+-- What a row r at place k holds on a board of n jobs.
+pub record RowLimits (n k : ℕ) (r : Row) : Type 0 where
+  -- "a mark: 0 undecided, 1 valid, 2 invalid"
+  pub mark : r .mark ≤ 2
+  pub live : k < n → r .mark ≢ 2 → Fits r
+  -- "An invalid job holds length 0, E 0, D 0 and no arcs"
+  pub invalid : k < n → r .mark ≡ 2 → r ≡ zeroRow 2
+  -- "a place without a job holds 0 in everything"
+  pub blank : n ≤ k → r ≡ zeroRow 0
+
+-- The limits of what the rules read.
+pub record Limited (v : View) : Type 0 where
+  pub jobs : v .jobs ≤ jobLimit
+  pub rows : (k : ℕ) → RowLimits (v .jobs) k (v .row k)
+  -- "An arc joins two different jobs of the board", and both are live
+  pub arcs : (i k : ℕ) → Arc v i k → Live v i × Live v k × (i ≢ k)
+
 -- The arrays have 64 places each, as their type says.
 pub record Shape (b : Board) : Type 0 where
   pub lengths : length (b .lengths) ≡ jobLimit
@@ -47,19 +64,10 @@ pub record Shape (b : Board) : Type 0 where
 -- A board within its limits.
 pub record Within (b : Board) : Type 0 where
   pub shape : Shape b
-  pub jobs : b .jobs ≤ jobLimit
-  pub tally : b .tally ≤ tallyLimit
-  -- "a mark: 0 undecided, 1 valid, 2 invalid"
-  pub marks : (k : ℕ) → rowOf b k .mark ≤ 2
-  pub live : (k : ℕ) → Live (view b) k → Fits (rowOf b k)
-  -- "An invalid job holds length 0, E 0, D 0 and no arcs"
-  pub invalid : (k : ℕ) → Invalid (view b) k → rowOf b k ≡ zeroRow 2
-  -- "a place without a job holds 0 in everything"
-  pub blank : (k : ℕ) → b .jobs ≤ k → rowOf b k ≡ zeroRow 0
-  -- "An arc joins two different jobs of the board", and both are live
-  pub arcs : (i k : ℕ) → Arc (view b) i k → Live (view b) i × Live (view b) k × (i ≢ k)
+  pub limits : Limited (view b)
   -- the arc that is kept twice agrees
   pub twice : (i k : ℕ) → arcIntoOf b k i ≡ arcOf b i k
+  pub tally : b .tally ≤ tallyLimit
 
 -- "An empty board has no jobs; its tally may be any within its limit."
 abbrev pub emptyBoard : ℕ → Board

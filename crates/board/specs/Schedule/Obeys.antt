@@ -12,9 +12,9 @@ use Rattle.board.specs.Paper.Rules.{energy}
 use Rattle.board.specs.Inference.Infers.{Pushing, r1, r2, r3, r45, r6, Obeys}
 use Rattle.board.specs.Inference.Forced.{valid-live}
 use Rattle.board.specs.Tests.Live.{refuted}
-use Rattle.board.specs.Paper.Entries.{Entries}
+use Rattle.board.specs.Paper.Entries.{Entries, Admissible}
 use Rattle.board.specs.Paper.Schedules.{Placing, Placed, Schedule}
-use Rattle.board.specs.Schedule.Scheduled.{scheduled, Positive, live-placed, arc-read, arc-show}
+use Rattle.board.specs.Schedule.Scheduled.{scheduled, live-placed, arc-read, arc-show}
 
 -- Each live job takes time and fills its window, and of any two one has an arc to the other. A job that has an arc to
 -- another ends no later than the other starts.
@@ -105,8 +105,8 @@ module _ (v : View) (line : InLine v) where
   in-line-obeys _ (r45 s j S m lj p) = (lj .0, λ _. packed s j S m lj p)
   in-line-obeys _ (r6 j lj h) = absurd (omega (whole, line .filled j lj))
 
-pub scheduled-obeys : (es : Entries) (p : Placing) → Positive es → Schedule es p → Obeys (scheduled es p)
-scheduled-obeys es p positive h = in-line-obeys (scheduled es p) in-line
+pub scheduled-obeys : (es : Entries) (p : Placing) → Admissible es → Schedule es p → Obeys (scheduled es p)
+scheduled-obeys es p ok h = in-line-obeys (scheduled es p) in-line
   where
     placed : (j : ℕ) → Live (scheduled es p) j → Placed p j
     placed = live-placed es p
@@ -114,9 +114,9 @@ scheduled-obeys es p positive h = in-line-obeys (scheduled es p) in-line
     in-line : InLine (scheduled es p)
     in-line =
         record {
-          positive = λ j l. rw (placed j l) (positive j (l .0) λ m. refuted (h .invalid j (l .0) m) (placed j l));
+          positive = λ j l. rw (placed j l) (ok .rows j (l .0) (λ m. refuted (h .invalid j (l .0) m) (placed j l)) .length .low);
           filled = λ j l. rw (placed j l);
-          follows = λ i k li lk a. rw (placed i li, placed k lk) (arc-read es p i k a);
+          follows = λ i k li lk a. rw (placed i li, placed k lk) (arc-read es p i k a .2);
           linked = λ i k li lk ne. ⊎-map
               (arc-show es p i k (placed i li) (placed k lk))
               (arc-show es p k i (placed k lk) (placed i li))

@@ -1,14 +1,13 @@
 -- A schedule makes a board: its jobs are valid, with their starts and ends for windows, and the others are invalid.
 -- What the board shows of its jobs and arcs is what the schedule says of them.
-use mathlib.Core.Logic.{_≢_}
 use mathlib.Core.Bool.{cond, _&&_}
 use Prim.Native.Nat.{ℕ, _<_}
 use native.Mathlib.Omega.{arith}
-use lib.IntN.{pos}
+use lib.Dec.{ltb}
 use lib.Signed.{leZ, _≤ℤ_}
+use borrow.Author.Tests.{lt-ltb}
 use Rattle.minutes.specs.Linear.{whole, is-true}
 use Rattle.board.specs.Paper.View.{Row, View, Live, Arc}
-use Rattle.board.specs.Paper.Facts.{Fact, Known}
 use Rattle.board.specs.Paper.Limits.{zeroRow}
 use Rattle.board.specs.Paper.Entries.{Entries}
 use Rattle.board.specs.Paper.Schedules.{Placing, Placed, end}
@@ -18,32 +17,31 @@ use Rattle.board.specs.Tests.Live.{and-parts}
 abbrev pub placedRow : Entries → Placing → ℕ → Row
 placedRow es p j = record { mark = 1; length = es .row j .length; earliest = p .start j; latest = end es p j }
 
+-- the row of a job that does not take place, and of a place without a job
+abbrev pub absentRow : Entries → ℕ → Row
+absentRow es j = zeroRow (cond (ltb j (es .jobs)) 2 0)
+
 -- An arc joins two jobs where the first ends no later than the second starts. A job that takes time has none to itself.
 abbrev pub scheduled : Entries → Placing → View
 scheduled es p =
     record {
       jobs = es .jobs;
-      row = λ j. cond (p .placed j) (placedRow es p j) (zeroRow 2);
+      row = λ j. cond (p .placed j) (placedRow es p j) (absentRow es j);
       arc = λ i k. p .placed i && p .placed k && leZ (end es p i) (p .start k);
     }
 
--- every added job that is not marked 2 has a length of at least 1
-abbrev pub Positive : Entries → Type 0
-Positive es = (j : ℕ) → j < es .jobs → es .row j .mark ≢ 2 → pos 1 ≤ℤ es .row j .length
-
--- every fact stated is about added jobs
-abbrev pub AboutAdded : Entries → Type 0
-AboutAdded es = (f : Fact) → es .facts f → Known (es .jobs) f
-
 module _ (es : Entries) (p : Placing) where
   pub live-placed : (j : ℕ) → Live (scheduled es p) j → Placed p j
-  live-placed j (l, n) = is-true (p .placed j) λ e. n (rw e)
+  live-placed j (l, n) = is-true (p .placed j) λ e. n (rw (e, lt-ltb j (es .jobs) l))
 
   pub placed-live : (j : ℕ) → j < es .jobs → Placed p j → Live (scheduled es p) j
   placed-live j l e = (l, rw e (omega arith))
 
-  pub arc-read : (i k : ℕ) → Arc (scheduled es p) i k → end es p i ≤ℤ p .start k
-  arc-read i k a = omega (whole, and-parts (p .placed i && p .placed k) (leZ (end es p i) (p .start k)) a .1)
+  pub arc-read : (i k : ℕ) → Arc (scheduled es p) i k → Placed p i × Placed p k × (end es p i ≤ℤ p .start k)
+  arc-read i k a =
+      let (both, h) = and-parts (p .placed i && p .placed k) (leZ (end es p i) (p .start k)) a in
+      let (e, d) = and-parts (p .placed i) (p .placed k) both in
+      (e, d, omega whole)
 
   pub arc-show : (i k : ℕ) → Placed p i → Placed p k → end es p i ≤ℤ p .start k → Arc (scheduled es p) i k
   arc-show i k e d h = rw (e, d) (omega whole)

@@ -1,27 +1,32 @@
--- A schedule's board shows the entries, and what a board below it shows, the schedule keeps. So every schedule of the
--- entries keeps what their least board shows, and entries that no board shows under the rules have no schedule.
+-- A schedule's board shows the entries, and what a board below it shows, the schedule keeps.
 use mathlib.Core.Path.{_≡_, refl}
 use mathlib.Core.Bool.{Bool, true, false, cond}
 use Prim.Native.Nat.{ℕ, _<_}
 use native.Mathlib.Omega.{arith}
+use borrow.Author.Tests.{lt-ltb}
 use Rattle.minutes.specs.Linear.{is-false}
 use Rattle.board.specs.Paper.View.{View, Live, early, late}
 use Rattle.board.specs.Paper.Facts.{Fact, is-arc, is-bound, is-valid, is-invalid, Holds, Known}
-use Rattle.board.specs.Order.Leastness.{Below, Impossible}
-use Rattle.board.specs.Paper.Limits.{zeroRow}
-use Rattle.board.specs.Order.Laws.{valid-up, arc-up}
+use Rattle.board.specs.Order.Laws.{shown-invalid, valid-up, arc-up}
 use Rattle.board.specs.Inference.Forced.{valid-live}
 use Rattle.board.specs.Tests.Live.{refuted}
-use Rattle.board.specs.Paper.Entries.{Entries, Shown, AtLeast, Drawn, drawn, shown, _⊑_}
+use Rattle.board.specs.Paper.Entries.{Entries, Admissible, Shown, Shows, Drawn, drawn, shown, _⊑_}
 use Rattle.board.specs.Paper.Schedules.{Placing, Placed, end, Respects, Schedule, Keeps}
-use Rattle.board.specs.Schedule.Scheduled.{placedRow, scheduled, Positive, AboutAdded, live-placed, placed-live, arc-read, arc-show}
-use Rattle.board.specs.Schedule.Obeys.{scheduled-obeys}
+use Rattle.board.specs.Schedule.Scheduled.{placedRow, absentRow, scheduled, live-placed, placed-live, arc-read, arc-show}
 
-pub scheduled-shows : (es : Entries) (p : Placing) → AboutAdded es → Schedule es p → AtLeast es (scheduled es p)
-scheduled-shows es p about h =
-    record { jobs = omega arith; rows = λ k l. row k l (p .placed k) refl; facts = λ f e. fact f (about f e) (h .facts f e) }
+pub scheduled-shows : (es : Entries) (p : Placing) → Admissible es → Schedule es p → Shows es (scheduled es p)
+scheduled-shows es p ok h =
+    record {
+      count = refl;
+      atLeast =
+          record {
+            jobs = omega arith;
+            rows = λ k l. row k l (p .placed k) refl;
+            facts = λ f e. fact f (ok .about f e) (h .facts f e);
+          };
+    }
   where
-    row : (k : ℕ) → k < es .jobs → (t : Bool) → p .placed k ≡ t → Shown (es .row k) (cond t (placedRow es p k) (zeroRow 2))
+    row : (k : ℕ) → k < es .jobs → (t : Bool) → p .placed k ≡ t → Shown (es .row k) (cond t (placedRow es p k) (absentRow es k))
     row k l true e =
         record {
           valid = λ m. refl;
@@ -31,13 +36,7 @@ scheduled-shows es p about h =
           latest = λ n. h .latest k e;
         }
     row k l false e =
-        record {
-          valid = λ m. absurd (refuted e (h .valid k l m));
-          invalid = λ m. refl;
-          length = λ n. absurd (n refl);
-          earliest = λ n. absurd (n refl);
-          latest = λ n. absurd (n refl);
-        }
+        shown-invalid (es .row k) (absentRow es k) (λ m. refuted e (h .valid k l m)) (rw (lt-ltb k (es .jobs) l))
 
     placed : (j : ℕ) → Live (scheduled es p) j → Placed p j
     placed = live-placed es p
@@ -48,7 +47,7 @@ scheduled-shows es p about h =
     fact (is-bound early j z) l r = (l, λ a. rw (placed j a) (r (placed j a)))
     fact (is-bound late j z) l r = (l, λ a. rw (placed j a) (r (placed j a)))
     fact (is-valid j) l r = (l, rw r)
-    fact (is-invalid j) l r = (l, rw r)
+    fact (is-invalid j) l r = (l, rw (r, lt-ltb j (es .jobs) l))
 
 pub kept : (es : Entries) (p : Placing) (v : View) → v .jobs ≡ es .jobs → Schedule es p → v ⊑ scheduled es p → Keeps v p
 kept es p v same h up =
@@ -79,15 +78,4 @@ kept es p v same h up =
 
     fact : (f : Fact) → Drawn v f → Respects (shown v) p f
     fact _ (drawn i k a) = λ ei ek.
-        rw (same-end i ei) (arc-read es p i k (arc-up v w up i k a (live i ei) (live k ek)))
-
-pub every-schedule-keeps : (es : Entries) (v : View) → Positive es → AboutAdded es → v .jobs ≡ es .jobs → Below es v
-    → (p : Placing) → Schedule es p → Keeps v p
-every-schedule-keeps es v positive about same least p h =
-    kept es p v same h
-    (least (scheduled es p) (scheduled-shows es p about h) (scheduled-obeys es p positive h))
-
-pub no-schedule : (es : Entries) → Positive es → AboutAdded es → Impossible es
-    → (p : Placing) → Schedule es p → ⊥
-no-schedule es positive about none p h =
-    none (scheduled es p) (scheduled-shows es p about h) (scheduled-obeys es p positive h)
+        rw (same-end i ei) (arc-read es p i k (arc-up v w up i k a (live i ei) (live k ek)) .2)

@@ -15,7 +15,7 @@ use Rattle.words.specs.BitLaws.{bit-high, bit-zero, bits-bound}
 use Rattle.minutes.specs.Linear.{whole, is-false}
 use Rattle.board.specs.declared.Board.{Board}
 use Rattle.board.specs.Paper.View.{Row, view, rowOf, arcOf, arcIntoOf, Live, Arc}
-use Rattle.board.specs.Paper.Limits.{jobLimit, tallyLimit, IsTime, IsLength, Fits, zeroRow, Shape, Within}
+use Rattle.board.specs.Paper.Limits.{jobLimit, tallyLimit, IsTime, IsLength, Fits, zeroRow, RowLimits, Shape, Within}
 use Rattle.board.specs.Tests.Live.{live, live-yes, live-show, refuted}
 use Rattle.board.specs.Tests.Limits.{between, isTime, isLength, isZero, fits, isZeroRow, full, shape, holdsJob, holdsNothing, joinable, agrees, withinLimits}
 use Rattle.board.specs.Tests.Decides.{Decides, restated, _and_, implied, negated, every, holds, le, lt, eq, same}
@@ -207,16 +207,11 @@ module _ (b : Board) (t : Tested b) where
   tested-within =
       record {
         shape = t .shape;
-        jobs = t .jobs;
-        tally = t .tally;
-        marks = λ k. marks k (decLt k (b .jobs));
-        live = λ k h. t .job k (h .0) .live h;
-        invalid = λ k h. t .job k (h .0) .invalid (h .1);
-        blank = λ k l. blank k l .row;
-        arcs = λ i k e. let (li, lk) = after i k e in t .pair i li k lk .arc e;
+        limits = record { jobs = t .jobs; rows = rows; arcs = λ i k e. let (li, lk) = after i k e in t .pair i li k lk .arc e };
         twice = λ i k.
             agreed (λ e. let (lk, li) = before k i e in t .pair i li k lk .twice)
             (λ e. let (li, lk) = after i k e in t .pair i li k lk .twice);
+        tally = t .tally;
       }
     where
       after : Inside (b .jobs) (b .after)
@@ -225,9 +220,18 @@ module _ (b : Board) (t : Tested b) where
       before : Inside (b .jobs) (b .before)
       before = inside (b .jobs) (b .before) (λ k l. t .job k l .before) (λ k l. blank k l .before)
 
-      marks : (k : ℕ) → Dec (k < b .jobs) → rowOf b k .mark ≤ 2
-      marks k (yes l) = t .job k l .mark
-      marks k (no l) = omega (arith, ap (λ x. x .mark) (blank k (omega arith) .row))
+      mark : (k : ℕ) → Dec (k < b .jobs) → rowOf b k .mark ≤ 2
+      mark k (yes l) = t .job k l .mark
+      mark k (no l) = omega (arith, ap (λ x. x .mark) (blank k (omega arith) .row))
+
+      rows : (k : ℕ) → RowLimits (b .jobs) k (rowOf b k)
+      rows k =
+          record {
+            mark = mark k (decLt k (b .jobs));
+            live = λ l m. t .job k l .live (l, m);
+            invalid = λ l. t .job k l .invalid;
+            blank = λ l. blank k l .row;
+          }
 
       -- two tests that agree where one of them holds
       agreed : {x y : Bool} → (x ≡ true → x ≡ y) → (y ≡ true → x ≡ y) → x ≡ y
@@ -239,30 +243,30 @@ within-tested : (b : Board) → Within b → Tested b
 within-tested b w =
     record {
       shape = w .shape;
-      jobs = w .jobs;
+      jobs = w .limits .jobs;
       tally = w .tally;
       job = λ k l.
           record {
-            mark = w .marks k;
-            live = w .live k;
-            invalid = λ e. w .invalid k (l, e);
+            mark = w .limits .rows k .mark;
+            live = λ h. w .limits .rows k .live l (h .1);
+            invalid = w .limits .rows k .invalid l;
             after = inside-low (b .jobs) (b .after) after k;
             before = inside-low (b .jobs) (b .before) before k;
           };
       blank = λ k h l.
           record {
-            row = w .blank k l;
+            row = w .limits .rows k .blank l;
             after = inside-blank (b .jobs) (b .after) after k l;
             before = inside-blank (b .jobs) (b .before) before k l;
           };
-      pair = λ i li k lk. record { arc = w .arcs i k; twice = w .twice i k };
+      pair = λ i li k lk. record { arc = w .limits .arcs i k; twice = w .twice i k };
     }
   where
     after : Inside (b .jobs) (b .after)
-    after i k e = let (x, y, n) = w .arcs i k e in (x .0, y .0)
+    after i k e = let (x, y, n) = w .limits .arcs i k e in (x .0, y .0)
 
     before : Inside (b .jobs) (b .before)
-    before k i e = let (x, y, n) = w .arcs i k (sym (w .twice i k) ∙ e) in (y .0, x .0)
+    before k i e = let (x, y, n) = w .limits .arcs i k (sym (w .twice i k) ∙ e) in (y .0, x .0)
 
 decides-limits : (b : Board) → Decides (withinLimits b) (Within b)
 decides-limits b = restated (decides-tested b) (tested-within b) (within-tested b)

@@ -4,22 +4,22 @@ use mathlib.Core.Logic.{_≢_}
 use Prim.Native.Nat.{ℕ, suc, _<_, _≤_}
 use native.Mathlib.Omega.{arith}
 use Rattle.board.specs.declared.Board.{Board}
-use Rattle.board.specs.Paper.View.{Row, Live, rowOf, view}
+use Rattle.board.specs.Paper.View.{Row, Live, Arc, rowOf, view}
 use Rattle.board.specs.Paper.Facts.{is-arc}
-use Rattle.board.specs.Paper.Limits.{jobLimit, Fits, Shape, Within}
+use Rattle.board.specs.Paper.Limits.{jobLimit, Fits, RowLimits, Shape, Within}
 use Rattle.board.specs.Paper.Entries.{Shown, drawn}
 use Rattle.board.specs.Order.Laws.{shown-refl}
 use Rattle.board.specs.Update.Updates.{append}
 use Rattle.board.specs.Update.Extension.{Appended}
 use Rattle.board.specs.Update.Stores.{stored-same, stored}
-use Rattle.board.specs.Update.Limits.{RowWithin, row-within, live-row, within-by, store-shape, live-stored}
+use Rattle.board.specs.Update.Limits.{live-row, store-shape, live-stored}
 use Rattle.board.specs.Update.Order.{by-arcs}
 
 -- the place past the jobs is the only one that the count moves across
-one-more : (n k : ℕ) (r : Row) → k ≢ n → RowWithin n k r → RowWithin (suc n) k r
+one-more : (n k : ℕ) (r : Row) → k ≢ n → RowLimits n k r → RowLimits (suc n) k r
 one-more n k r ne h =
     record {
-      marks = h .marks;
+      mark = h .mark;
       live = λ l. h .live (omega arith);
       invalid = λ l. h .invalid (omega arith);
       blank = λ l. h .blank (omega arith);
@@ -40,18 +40,24 @@ module _ (b : Board) (r : Row) (within : Within b) (free : b .jobs < jobLimit) w
 
   append-within : Fits r → r .mark ≤ 1 → Within (append b r)
   append-within fits m =
-      within-by (append b r) append-shape free (within .tally) rows
-      (λ x y a. let (lx, ly, ne) = within .arcs x y a in (live x lx, live y ly, ne))
-      (within .twice)
+      record {
+        shape = append-shape;
+        limits = record { jobs = free; rows = rows; arcs = arcs };
+        twice = within .twice;
+        tally = within .tally;
+      }
     where
-      rows : (k : ℕ) → RowWithin (suc (b .jobs)) k (rowOf (append b r) k)
+      rows : (k : ℕ) → RowLimits (suc (b .jobs)) k (rowOf (append b r) k)
       rows =
-          stored b (within .shape) (b .jobs) r free (RowWithin (suc (b .jobs)))
+          stored b (within .shape) (b .jobs) r free (RowLimits (suc (b .jobs)))
           (live-row (suc (b .jobs)) (b .jobs) r (omega arith) m fits)
-          λ k ne. one-more (b .jobs) k (rowOf b k) ne (row-within b within k)
+          λ k ne. one-more (b .jobs) k (rowOf b k) ne (within .limits .rows k)
 
       live : (x : ℕ) → Live (view b) x → Live (view (append b r)) x
       live x l = (omega arith, live-stored b within (b .jobs) r free x l (λ e. omega arith) .1)
+
+      arcs : (x y : ℕ) → Arc (view b) x y → Live (view (append b r)) x × Live (view (append b r)) y × (x ≢ y)
+      arcs x y a = let (lx, ly, ne) = within .limits .arcs x y a in (live x lx, live y ly, ne)
 
   pub appended : Fits r → r .mark ≤ 1 → Appended b r (append b r)
   appended fits m =
@@ -65,7 +71,7 @@ module _ (b : Board) (r : Row) (within : Within b) (free : b .jobs < jobLimit) w
               (λ l. absurd (omega arith))
               λ k _ _. shown-refl (rowOf b k);
           facts = by-arcs (view b) (view (append b r)) λ x y a.
-              let (lx, ly, _) = within .arcs x y a in
+              let (lx, ly, _) = within .limits .arcs x y a in
               (omega arith, omega arith, λ _ _. a);
         };
         row = stored-same b (within .shape) (b .jobs) r free;

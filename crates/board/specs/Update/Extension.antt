@@ -24,7 +24,7 @@ above-self b h =
       within = h;
       jobs = refl;
       tally = refl;
-      above = ⊑-refl (view b) λ i k a. (h .arcs i k a .0 .0, h .arcs i k a .1 .0);
+      above = ⊑-refl (view b) λ i k a. (h .limits .arcs i k a .0 .0, h .limits .arcs i k a .1 .0);
     }
 
 pub record Extended (b : Board) (f : Fact) (c : Board) : Type 0 where

@@ -5,52 +5,24 @@ use Prim.Native.Nat.{ℕ, _<_, _≤_}
 use native.Mathlib.Omega.{arith}
 use lib.ListN.{length-set, length-map}
 use Rattle.board.specs.declared.Board.{Board}
-use Rattle.board.specs.Paper.View.{Row, Live, Arc, rowOf, arcOf, arcIntoOf, view}
-use Rattle.board.specs.Paper.Limits.{jobLimit, tallyLimit, Fits, zeroRow, Shape, Within}
+use Rattle.board.specs.Paper.View.{Row, Live, Arc, rowOf, view}
+use Rattle.board.specs.Paper.Limits.{jobLimit, Fits, zeroRow, RowLimits, Shape, Within}
 use Rattle.board.specs.Update.Updates.{store, link, invalidate}
 use Rattle.board.specs.Update.Stores.{place, stored, linked-twice, linked-arcs, cut-twice, cut-old}
 
--- ---- the limits, row by row
+-- ---- rows within the limits: of a live job, of an invalid one, and of a place without a job
 
--- what the limits ask of a row r at place k where n places hold jobs
-pub record RowWithin (n k : ℕ) (r : Row) : Type 0 where
-  pub marks : r .mark ≤ 2
-  pub live : k < n → r .mark ≢ 2 → Fits r
-  pub invalid : k < n → r .mark ≡ 2 → r ≡ zeroRow 2
-  pub blank : n ≤ k → r ≡ zeroRow 0
-
-pub row-within : (b : Board) → Within b → (k : ℕ) → RowWithin (b .jobs) k (rowOf b k)
-row-within b within k =
-    record {
-      marks = within .marks k;
-      live = λ l m. within .live k (l, m);
-      invalid = λ l m. within .invalid k (l, m);
-      blank = within .blank k;
-    }
-
--- the row of a live job
-pub live-row : (n k : ℕ) (r : Row) → k < n → r .mark ≤ 1 → Fits r → RowWithin n k r
+pub live-row : (n k : ℕ) (r : Row) → k < n → r .mark ≤ 1 → Fits r → RowLimits n k r
 live-row n k r l m fits =
-    record { marks = omega arith; live = λ _ _. fits; invalid = λ _ e. absurd (omega arith); blank = λ h. absurd (omega arith) }
+    record { mark = omega arith; live = λ _ _. fits; invalid = λ _ e. absurd (omega arith); blank = λ h. absurd (omega arith) }
 
--- a board is within its limits by its rows and its arcs
-pub within-by : (b : Board) → Shape b → b .jobs ≤ jobLimit → b .tally ≤ tallyLimit
-    → ((k : ℕ) → RowWithin (b .jobs) k (rowOf b k))
-    → ((i k : ℕ) → Arc (view b) i k → Live (view b) i × Live (view b) k × (i ≢ k))
-    → ((i k : ℕ) → arcIntoOf b k i ≡ arcOf b i k)
-    → Within b
-within-by b shape jobs tally rows arcs twice =
-    record {
-      shape = shape;
-      jobs = jobs;
-      tally = tally;
-      marks = λ k. rows k .marks;
-      live = λ k h. rows k .live (h .0) (h .1);
-      invalid = λ k h. rows k .invalid (h .0) (h .1);
-      blank = λ k. rows k .blank;
-      arcs = arcs;
-      twice = twice;
-    }
+pub invalid-row : (n k : ℕ) → k < n → RowLimits n k (zeroRow 2)
+invalid-row n k l =
+    record { mark = omega arith; live = λ _ m. absurd (m refl); invalid = λ _ _. refl; blank = λ h. absurd (omega arith) }
+
+pub blank-row : (n k : ℕ) → n ≤ k → RowLimits n k (zeroRow 0)
+blank-row n k l =
+    record { mark = omega arith; live = λ h. absurd (omega arith); invalid = λ h. absurd (omega arith); blank = λ _. refl }
 
 pub store-shape : (b : Board) → Shape b → (j : ℕ) (r : Row) → Shape (store b j r)
 store-shape b shape j r =
@@ -80,19 +52,24 @@ module _ (b : Board) (within : Within b) where
   module _ (j : ℕ) (job : j < b .jobs) where
     pub store-within : (r : Row) → r .mark ≤ 1 → Fits r → Within (store b j r)
     store-within r m fits =
-        within-by (store b j r) (store-shape b (within .shape) j r) (within .jobs) (within .tally) rows arcs (within .twice)
+        record {
+          shape = store-shape b (within .shape) j r;
+          limits = record { jobs = within .limits .jobs; rows = rows; arcs = arcs };
+          twice = within .twice;
+          tally = within .tally;
+        }
       where
-        rows : (k : ℕ) → RowWithin (b .jobs) k (rowOf (store b j r) k)
+        rows : (k : ℕ) → RowLimits (b .jobs) k (rowOf (store b j r) k)
         rows =
-            stored b (within .shape) j r (place b within j job) (RowWithin (b .jobs))
+            stored b (within .shape) j r (place b within j job) (RowLimits (b .jobs))
             (live-row (b .jobs) j r job m fits)
-            λ k _. row-within b within k
+            λ k _. within .limits .rows k
 
         live : (x : ℕ) → Live (view b) x → Live (view (store b j r)) x
         live x l = live-stored j r (place b within j job) x l (λ _ e. omega arith)
 
         arcs : (x y : ℕ) → Arc (view b) x y → Live (view (store b j r)) x × Live (view (store b j r)) y × (x ≢ y)
-        arcs x y a = let (lx, ly, ne) = within .arcs x y a in (live x lx, live y ly, ne)
+        arcs x y a = let (lx, ly, ne) = within .limits .arcs x y a in (live x lx, live y ly, ne)
 
     invalidate-shape : Shape (invalidate b j)
     invalidate-shape =
@@ -106,19 +83,20 @@ module _ (b : Board) (within : Within b) where
           before = rw (length-set, length-map) (within .shape .before);
         }
 
-    invalid-row : RowWithin (b .jobs) j (zeroRow 2)
-    invalid-row =
-        record { marks = omega arith; live = λ _ m. absurd (m refl); invalid = λ _ _. refl; blank = λ h. absurd (omega arith) }
-
     pub invalidate-within : Within (invalidate b j)
     invalidate-within =
-        within-by (invalidate b j) invalidate-shape (within .jobs) (within .tally) rows arcs (cut-twice b within j job)
+        record {
+          shape = invalidate-shape;
+          limits = record { jobs = within .limits .jobs; rows = rows; arcs = arcs };
+          twice = cut-twice b within j job;
+          tally = within .tally;
+        }
       where
-        rows : (k : ℕ) → RowWithin (b .jobs) k (rowOf (invalidate b j) k)
+        rows : (k : ℕ) → RowLimits (b .jobs) k (rowOf (invalidate b j) k)
         rows =
-            stored b (within .shape) j (zeroRow 2) (place b within j job) (RowWithin (b .jobs))
-            invalid-row
-            λ k _. row-within b within k
+            stored b (within .shape) j (zeroRow 2) (place b within j job) (RowLimits (b .jobs))
+            (invalid-row (b .jobs) j job)
+            λ k _. within .limits .rows k
 
         live : (x : ℕ) → Live (view b) x → x ≢ j → Live (view (invalidate b j)) x
         live x l ne = live-stored j (zeroRow 2) (place b within j job) x l (λ e. absurd (ne e))
@@ -127,14 +105,17 @@ module _ (b : Board) (within : Within b) where
             → Live (view (invalidate b j)) x × Live (view (invalidate b j)) y × (x ≢ y)
         arcs x y a =
             let (old, nx, ny) = cut-old b within j job x y a in
-            let (lx, ly, ne) = within .arcs x y old in
+            let (lx, ly, ne) = within .limits .arcs x y old in
             (live x lx nx, live y ly ny, ne)
 
   pub link-within : (i k : ℕ) → Live (view b) i → Live (view b) k → i ≢ k → Within (link b i k)
   link-within i k li lk ne =
-      within-by (link b i k) shape (within .jobs) (within .tally) (row-within b within)
-      (linked-arcs b within i k (li .0) (lk .0) (λ x y. Live (view b) x × Live (view b) y × (x ≢ y)) (li, lk, ne) (within .arcs))
-      (linked-twice b within i k (li .0) (lk .0))
+      record {
+        shape = shape;
+        limits = record { jobs = within .limits .jobs; rows = within .limits .rows; arcs = arcs };
+        twice = linked-twice b within i k (li .0) (lk .0);
+        tally = within .tally;
+      }
     where
       shape : Shape (link b i k)
       shape =
@@ -146,3 +127,7 @@ module _ (b : Board) (within : Within b) where
             after = rw length-set (within .shape .after);
             before = rw length-set (within .shape .before);
           }
+
+      arcs : (x y : ℕ) → Arc (view (link b i k)) x y → Live (view b) x × Live (view b) y × (x ≢ y)
+      arcs =
+          linked-arcs b within i k (li .0) (lk .0) (λ x y. Live (view b) x × Live (view b) y × (x ≢ y)) (li, lk, ne) (within .limits .arcs)

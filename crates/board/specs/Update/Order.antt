@@ -9,20 +9,9 @@ use Rattle.board.specs.Paper.View.{Row, View, Live, Invalid, Arc, rowOf,
 use Rattle.board.specs.Paper.Facts.{Fact, is-arc, Holds}
 use Rattle.board.specs.Paper.Limits.{zeroRow, Within}
 use Rattle.board.specs.Paper.Entries.{Shown, Drawn, drawn, _⊑_}
-use Rattle.board.specs.Order.Laws.{shown-refl}
+use Rattle.board.specs.Order.Laws.{shown-refl, shown-invalid}
 use Rattle.board.specs.Update.Updates.{store, link, invalidate}
 use Rattle.board.specs.Update.Stores.{place, stored-same, stored, linked-old, linked-arcs, cut-old, cut-kept}
-
--- an invalid job shows every row but a valid one
-shown-invalid : (r s : Row) → r .mark ≢ 1 → s .mark ≡ 2 → Shown r s
-shown-invalid r s m e =
-    record {
-      valid = λ v. absurd (m v);
-      invalid = λ _. e;
-      length = λ l. absurd (l e);
-      earliest = λ l. absurd (l e);
-      latest = λ l. absurd (l e);
-    }
 
 -- the facts that a view counts as entries are its arcs
 pub by-arcs : (v w : View) → ((i k : ℕ) → Arc v i k → Holds w (is-arc i k)) → (f : Fact) → Drawn v f → Holds w f
@@ -40,7 +29,7 @@ module _ (b : Board) (within : Within b) where
           rows = stored b (within .shape) j r (place b within j job) (λ k s. k < b .jobs → Shown (rowOf b k) s)
               (λ _. new)
               λ k _ _. shown-refl (rowOf b k);
-          facts = by-arcs (view b) (view (store b j r)) λ x y a. let (lx, ly, _) = within .arcs x y a in (lx .0, ly .0, λ _ _. a);
+          facts = by-arcs (view b) (view (store b j r)) λ x y a. let (lx, ly, _) = within .limits .arcs x y a in (lx .0, ly .0, λ _ _. a);
         }
 
     pub store-least : (r : Row) (w : View) → view b ⊑ w → Shown r (w .row j) → view (store b j r) ⊑ w
@@ -62,7 +51,7 @@ module _ (b : Board) (within : Within b) where
           jobs = omega arith;
           rows = store-above (zeroRow 2) (shown-invalid (rowOf b j) (zeroRow 2) m refl) .rows;
           facts = by-arcs (view b) (view (invalidate b j)) λ x y a.
-              let (lx, ly, _) = within .arcs x y a in
+              let (lx, ly, _) = within .limits .arcs x y a in
               (lx .0, ly .0, λ lx ly. cut-kept b within j job x y a (apart x lx) (apart y ly));
         }
       where
@@ -84,7 +73,7 @@ module _ (b : Board) (within : Within b) where
           jobs = omega arith;
           rows = λ k _. shown-refl (rowOf b k);
           facts = by-arcs (view b) (view (link b i k)) λ x y a.
-              let (lx, ly, _) = within .arcs x y a in
+              let (lx, ly, _) = within .limits .arcs x y a in
               (lx .0, ly .0, λ _ _. linked-old b within i k job-i job-k x y a);
         }
 

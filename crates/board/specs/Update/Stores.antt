@@ -23,7 +23,7 @@ use Rattle.board.specs.Update.Updates.{store, link, isolate, invalidate}
 
 -- the arrays have a place for every job
 pub place : (b : Board) → Within b → (j : ℕ) → j < b .jobs → j < jobLimit
-place b within j job = omega (arith, within .jobs)
+place b within j job = omega (arith, within .limits .jobs)
 
 -- ---- rows
 
@@ -98,15 +98,15 @@ module _ (words : List ℕ) (j : ℕ) (inside : j < jobLimit) (size : length wor
 module _ (b : Board) (within : Within b) where
   -- a word with jobs for members is as narrow as its type says
   narrow : (w : ℕ) → ((y : ℕ) → bit w y ≡ true → y < b .jobs) → w < 2 ^ jobLimit
-  narrow w members = bits-bound jobLimit w λ y l. is-false (bit w y) λ e. omega (arith, within .jobs, members y e)
+  narrow w members = bits-bound jobLimit w λ y l. is-false (bit w y) λ e. omega (arith, within .limits .jobs, members y e)
 
   module _ (i k : ℕ) (job-i : i < b .jobs) (job-k : k < b .jobs) where
     pub linked : (x y : ℕ) → arcOf (link b i k) x y ≡ (arcOf b x y || (eqb i x && eqb k y))
-    linked = entered (b .after) i k (omega (arith, within .jobs, within .shape .after))
+    linked = entered (b .after) i k (omega (arith, within .limits .jobs, within .shape .after))
 
     pub linked-twice : (x y : ℕ) → arcIntoOf (link b i k) y x ≡ arcOf (link b i k) x y
     linked-twice x y =
-        entered (b .before) k i (omega (arith, within .jobs, within .shape .before)) y x
+        entered (b .before) k i (omega (arith, within .limits .jobs, within .shape .before)) y x
         ∙ rw (within .twice x y, and-comm (eqb k y) (eqb i x)) (sym (linked x y))
 
     pub linked-new : Arc (view (link b i k)) i k
@@ -130,7 +130,7 @@ module _ (b : Board) (within : Within b) where
     pub cut : (x y : ℕ) → arcOf (invalidate b j) x y ≡ (arcOf b x y && (not (eqb j x) && not (eqb j y)))
     cut =
         isolated (b .after) j (place b within j job) (within .shape .after) λ x.
-        narrow (getD (b .after) x 0) λ y e. within .arcs x y e .1 .0
+        narrow (getD (b .after) x 0) λ y e. within .limits .arcs x y e .1 .0
 
     pub cut-twice : (x y : ℕ) → arcIntoOf (invalidate b j) y x ≡ arcOf (invalidate b j) x y
     cut-twice x y =
@@ -138,7 +138,7 @@ module _ (b : Board) (within : Within b) where
         ∙ rw (within .twice x y, and-comm (not (eqb j y)) (not (eqb j x))) (sym (cut x y))
       where
         into-narrow : (y : ℕ) → getD (b .before) y 0 < 2 ^ jobLimit
-        into-narrow y = narrow (getD (b .before) y 0) λ x e. within .arcs x y (sym (within .twice x y) ∙ e) .0 .0
+        into-narrow y = narrow (getD (b .before) y 0) λ x e. within .limits .arcs x y (sym (within .twice x y) ∙ e) .0 .0
 
     pub cut-old : (x y : ℕ) → Arc (view (invalidate b j)) x y → Arc (view b) x y × (x ≢ j) × (y ≢ j)
     cut-old x y e =

@@ -108,8 +108,8 @@ module _ (b : Board) (within : Within b) where
 
       fitting : roomy r ≡ true → Extended b (is-bound s j z) (store b j r)
       fitting room =
-          rewritten (is-bound s j z) j r (lj .0) (omega (arith, raised-mark s z (rowOf b j), within .marks j))
-          (raised-fits s z (rowOf b j) (within .live j lj) h room)
+          rewritten (is-bound s j z) j r (lj .0) (omega (arith, raised-mark s z (rowOf b j), within .limits .rows j .mark))
+          (raised-fits s z (rowOf b j) (within .limits .rows j .live (lj .0) (lj .1)) h room)
           (raised-above s z (rowOf b j) h)
           (lj .0, λ _. store-shows b within j (lj .0) r (λ t. z ≤ℤ bound s t) (raised-bound s z (rowOf b j)))
           λ w up k. raised-least s z (rowOf b j) (w .row j) (up .rows j (lj .0)) λ l. k .1 (k .0, l)
@@ -172,7 +172,7 @@ module _ (b : Board) (within : Within b) where
       was-live e =
           let m : r .mark ≢ 2 = eqb-false (r .mark) 2 e in
           rewritten (is-valid j) j (validated r) job (omega arith)
-          (validated-fits r (within .live j (job, m)))
+          (validated-fits r (within .limits .rows j .live job m))
           (validated-above r m)
           (job, store-shows b within j job (validated r) (λ t. t .mark ≡ 1) refl)
           λ w up h. validated-least r (w .row j) (up .rows j job) (h .1)
