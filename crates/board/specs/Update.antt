@@ -1,6 +1,7 @@
 -- Updates by one fact or one job: the least board above that shows it.
 pub mod Updates
 pub mod Extension
+pub mod Compose
 pub mod Stores
 pub mod Limits
 pub mod Order

@@ -4,7 +4,7 @@ use Prim.Native.Nat.{ℕ, zero, suc, _+_, _*_}
 use Rattle.board.specs.declared.Board.{Board}
 use Rattle.board.specs.Paper.View.{view}
 use Rattle.board.specs.Paper.Limits.{jobLimit}
-use Rattle.board.specs.Update.Updates.{update}
+use Rattle.board.specs.Update.Updates.{update, _andThen_}
 use Rattle.closure.specs.Find.{find}
 
 -- Each inference uses up a minute of a window, an arc or a live job, so that there are never more steps than this.
@@ -13,7 +13,7 @@ steps = jobLimit * 2000001 + jobLimit * jobLimit
 
 unfoldable pub close : ℕ → Board → Option Board
 close zero b = some b
-close (suc n) b = elim (find (view b)) [ none ↦ some b | some f ↦ elim (update b f) [ none ↦ none | some c ↦ close n c ] ]
+close (suc n) b = elim (find (view b)) [ none ↦ some b | some f ↦ update b f andThen (λ c. close n c) ]
 
 unfoldable pub closure : Board → Option Board
 closure b = close (suc steps) b

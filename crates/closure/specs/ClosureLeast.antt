@@ -25,7 +25,7 @@ closure-least b h = go (closure b) (closure-closes b h)
         (record {
           within = t .more .within;
           shows = record { count = t .more .jobs; atLeast = t .more .above };
-          rules = obeys-rules (view c) (t .obeys);
+          rules = obeys-rules (view c) (t .meets);
         })
-        (t .least)
-    go none t = impossible-contradiction (shown (view b)) t
+        λ w up ob. t .least w up ob ob
+    go none t = impossible-contradiction (shown (view b)) λ w up ob. t w up ob ob

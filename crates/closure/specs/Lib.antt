@@ -8,5 +8,4 @@ pub mod FindComplete
 pub mod Measure
 pub mod Closes
 pub mod Checked
-pub mod Confluent
 pub mod ClosureLeast

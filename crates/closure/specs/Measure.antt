@@ -74,7 +74,7 @@ bound-time : (s : Side) (r : Row) → Fits r → IsTime (bound s r)
 bound-time early r f = f .earliest
 bound-time late r f = omega (whole, minus (r .latest), f .latest .low, f .latest .high)
 
-module _ (b c : Board) (more : Above b c) where
+module _ (b c : Board) (more : Above (b .jobs) b c) where
   live-before : (j : ℕ) → Live (view c) j → Live (view b) j
   live-before j l = live-down (view b) (view c) (more .above) j (omega (arith, more .jobs, l .0)) l
 

@@ -7,16 +7,18 @@ use Prim.Native.Nat.{ℕ, suc, _<_}
 use native.Mathlib.Omega.{arith}
 use native.Mathlib.Decide.{ℕ-discrete}
 use lib.Dec.{eqb}
+use lib.IntN.{ℤ}
 use borrow.Author.Tests.{eq-eqb, ne-eqb}
 use Rattle.board.specs.Paper.View.{Row, View}
 use Rattle.board.specs.Paper.Facts.{Fact, Holds}
 use Rattle.board.specs.Paper.Entries.{Entries, Shown, AtLeast, _⊑_}
+use Rattle.board.specs.Update.Extension.{HasRow}
 use Rattle.board.specs.Order.Laws.{shown-trans, holds-up, below-up}
 use Rattle.entries.specs.Paper.Entry.{Entry, addition, arc, mark, cut, addedRow, added, stated, addRow, stating, withEntry}
 
 -- a view shows the entry, made on a board of n jobs: the row that it adds at place n, and the facts that it states
 pub record ShowsEntry (n : ℕ) (e : Entry) (w : View) : Type 0 where
-  pub rows : (r : Row) → List·Memᴰ r (added e) → (n < w .jobs) × Shown r (w .row n)
+  pub rows : (r : Row) → List·Memᴰ r (added e) → HasRow n r w
   pub facts : (f : Fact) → List·Memᴰ f (stated e) → Holds w f
 
 pub entry-up : (n : ℕ) (e : Entry) (v w : View) → v ⊑ w → ShowsEntry n e v → ShowsEntry n e w
@@ -27,15 +29,17 @@ entry-up n e v w up h =
     }
 
 module _ (es : Entries) (w : View) where
-  split-row : (r : Row) → AtLeast (addRow es r) w → AtLeast es w × (es .jobs < w .jobs) × Shown r (w .row (es .jobs))
+  split-row : (r : Row) → AtLeast (addRow es r) w → AtLeast es w × HasRow (es .jobs) r w
   split-row r h = (
     record {
       jobs = omega (arith, h .jobs);
       rows = λ k l. subst (λ t. Shown (cond t r (es .row k)) (w .row k)) (ne-eqb k (es .jobs) (λ e. omega arith)) (h .rows k (omega arith));
       facts = h .facts;
     },
-    h .jobs,
-    subst (λ t. Shown (cond t r (es .row (es .jobs))) (w .row (es .jobs))) (eq-eqb (es .jobs) (es .jobs) refl) (h .rows (es .jobs) (omega arith)),
+    (
+      h .jobs,
+      subst (λ t. Shown (cond t r (es .row (es .jobs))) (w .row (es .jobs))) (eq-eqb (es .jobs) (es .jobs) refl) (h .rows (es .jobs) (omega arith)),
+    ),
   )
 
   join-row : (r : Row) → AtLeast es w → es .jobs < w .jobs → Shown r (w .row (es .jobs)) → AtLeast (addRow es r) w
@@ -59,6 +63,14 @@ module _ (es : Entries) (w : View) where
 pub shows-facts : (n : ℕ) (e : Entry) (w : View) → added e ≡ [] → ((f : Fact) → List·Memᴰ f (stated e) → Holds w f) → ShowsEntry n e w
 shows-facts n e w none h = record { rows = λ r m. absurd (List·Memᴰ·not-nil (subst (λ l. List·Memᴰ r l) none m)); facts = h }
 
+-- an addition
+pub shows-row : (n : ℕ) (w : View) (l x d m : ℤ) → HasRow n (addedRow l x d m) w → ShowsEntry n (addition l x d m) w
+shows-row n w l x d m (b, s) =
+    record {
+      rows = λ r i. (b, subst⁻¹ (λ t. Shown t (w .row n)) (List·Memᴰ·eq-of-singleton i) s);
+      facts = λ f i. absurd (List·Memᴰ·not-nil i);
+    }
+
 -- the entries with one more ask of a view what the others ask, and that it shows the entry besides
 module _ (es : Entries) (w : View) where
   split-stated : (e : Entry) → added e ≡ [] → AtLeast (stating es (stated e)) w → AtLeast es w × ShowsEntry (es .jobs) e w
@@ -66,13 +78,8 @@ module _ (es : Entries) (w : View) where
 
   pub with-split : (e : Entry) → AtLeast (withEntry es e) w → AtLeast es w × ShowsEntry (es .jobs) e w
   with-split (addition l x d m) h =
-      let (a, b, c) = split-row es w (addedRow l x d m) h in (
-        a,
-        record {
-          rows = λ r i. (b, subst⁻¹ (λ t. Shown t (w .row (es .jobs))) (List·Memᴰ·eq-of-singleton i) c);
-          facts = λ f i. absurd (List·Memᴰ·not-nil i);
-        },
-      )
+      let (a, b) = split-row es w (addedRow l x d m) h in
+      (a, shows-row (es .jobs) w l x d m b)
   with-split (arc a b) h = split-stated (arc a b) refl h
   with-split (mark j m) h = split-stated (mark j m) refl h
   with-split (cut j x d) h = split-stated (cut j x d) refl h

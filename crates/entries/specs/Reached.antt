@@ -100,24 +100,24 @@ module _ (es : Entries) (b : Board) (e : Entry) (r : Reached es b) where
   pub reached-with : (c : Board) → Settled b e c → Reached (withEntry es e) c
   reached-with c s =
       record {
-        within = s .within;
+        within = s .more .within;
         shows =
             record {
-              count = s .jobs ∙ with-jobs (shown (view b)) es e (r .shows .count);
+              count = s .more .jobs ∙ with-jobs (shown (view b)) es e (r .shows .count);
               atLeast =
-                  with-join es (view c) e (atLeast-up (view b) (view c) (s .above) es (r .shows .atLeast))
-                  (subst (λ n. ShowsEntry n e (view c)) (r .shows .count) (s .shows));
+                  with-join es (view c) e (atLeast-up (view b) (view c) (s .more .above) es (r .shows .atLeast))
+                  (subst (λ n. ShowsEntry n e (view c)) (r .shows .count) (s .meets .0));
             };
-        obeys = s .obeys;
+        obeys = s .meets .1;
         below = λ w h ob.
             let (h′, k) = with-split es w e h in
-            s .least w (r .below w h′ ob) ob (moved w k);
+            s .least w (r .below w h′ ob) ob (moved w k, ob);
       }
 
   pub impossible-with : SettledTo b e none → Impossible (withEntry es e)
   impossible-with s w h ob =
       let (h′, k) = with-split es w e h in
-      s w (r .below w h′ ob) ob (moved w k)
+      s w (r .below w h′ ob) ob (moved w k, ob)
 
 -- the tally is no part of what is reached
 pub reached-counted : (es : Entries) (b : Board) → Reached es b → Reached es (counted b)

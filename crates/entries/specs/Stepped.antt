@@ -32,7 +32,7 @@ reached-least es b r =
 module _ (es : Entries) (b : Board) (e : Entry) (r : Reached es b) where
   settled : gate (checks (b .jobs) e) ≡ none → (o : Option Board) → SettledTo b e o → Step es b e (concluded b e o)
   settled g none s = impossible g (impossible-with es b e r s)
-  settled g (some c) s = accepted g c (reached-with es b e r c s) (s .tally)
+  settled g (some c) s = accepted g c (reached-with es b e r c s) (s .more .tally)
 
   decided : (o : Option Refusal) → gate (checks (b .jobs) e) ≡ o → Step es b e (judged b e o)
   decided (some x) g = by-table x g

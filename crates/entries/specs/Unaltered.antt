@@ -41,7 +41,7 @@ adds-none es n (cut j x d) none-added = (refl, refl)
 
 -- an entry is accepted without effect where the board shows already what it states
 pub unaltered : (b : Board) (e : Entry) → passes b ≡ true → added e ≡ [] → gate (checks (b .jobs) e) ≡ none
-    → HoldAll (view b) (stated e) → enter b e ≡ withoutEffect b
+    → HoldAll (stated e) (view b) → enter b e ≡ withoutEffect b
 unaltered b e p none-added g holds = ends (enter b e) (enter-checked b e p)
   where
     es : Entries
@@ -101,7 +101,7 @@ module _ (b : Board) (e : Entry) (p : passes b ≡ true) where
 
   -- an accepted arc, mark or cut met no refusal, and its board shows it
   shown-after : (x : Entered) → Step (shown (view b)) b e x → x .answer ≡ Answers.Accepted
-      → (gate (checks (b .jobs) e) ≡ none) × (added e ≡ []) × HoldAll (view (x .board)) (stated e)
+      → (gate (checks (b .jobs) e) ≡ none) × (added e ≡ []) × HoldAll (stated e) (view (x .board))
   shown-after _ (by-table r g) q = let z : _≡_ {A = ℕ} 0 1 = cc in absurd (omega arith)
   shown-after _ (impossible g i) q = let z : _≡_ {A = ℕ} 0 1 = cc in absurd (omega arith)
   shown-after _ (accepted g c r t) q =

@@ -62,20 +62,23 @@ module _ (b : Board) (r : Row) (within : Within b) (free : b .jobs < jobLimit) w
   pub appended : Fits r → r .mark ≤ 1 → Appended b r (append b r)
   appended fits m =
       record {
-        within = append-within fits m;
-        jobs = refl;
-        tally = refl;
-        above = record {
-          jobs = omega arith;
-          rows = stored b (within .shape) (b .jobs) r free (λ k s. k < b .jobs → Shown (rowOf b k) s)
-              (λ l. absurd (omega arith))
-              λ k _ _. shown-refl (rowOf b k);
-          facts = by-arcs (view b) (view (append b r)) λ x y a.
-              let (lx, ly, _) = within .limits .arcs x y a in
-              (omega arith, omega arith, λ _ _. a);
-        };
-        row = stored-same b (within .shape) (b .jobs) r free;
-        least = λ w up more new.
+        more =
+            record {
+              within = append-within fits m;
+              jobs = refl;
+              tally = refl;
+              above = record {
+                jobs = omega arith;
+                rows = stored b (within .shape) (b .jobs) r free (λ k s. k < b .jobs → Shown (rowOf b k) s)
+                    (λ l. absurd (omega arith))
+                    λ k _ _. shown-refl (rowOf b k);
+                facts = by-arcs (view b) (view (append b r)) λ x y a.
+                    let (lx, ly, _) = within .limits .arcs x y a in
+                    (omega arith, omega arith, λ _ _. a);
+              };
+            };
+        meets = (omega arith, rw (stored-same b (within .shape) (b .jobs) r free) (shown-refl r));
+        least = λ w up _ (more, new).
             record {
               jobs = more;
               rows = stored b (within .shape) (b .jobs) r free (λ k s. k < suc (b .jobs) → Shown s (w .row k))

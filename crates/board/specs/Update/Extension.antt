@@ -1,24 +1,25 @@
--- What an update does, said by the order alone: the least board above b, within the limits, that shows one more fact.
+-- What a step up from a board does, said by the order alone: the least board above b, within the limits, that meets a
+-- demand, as that a fact holds, that an entry is shown or that the rules are obeyed.
 use mathlib.Core.Path.{_≡_, refl}
 use mathlib.Core.Option.{Option, none, some}
-use Prim.Native.Nat.{suc, _<_}
+use Prim.Native.Nat.{ℕ, suc, _<_}
 use Rattle.board.specs.declared.Board.{Board}
-use Rattle.board.specs.Paper.View.{Row, View, view, rowOf}
+use Rattle.board.specs.Paper.View.{Row, View, view}
 use Rattle.board.specs.Paper.Facts.{Fact, Holds}
 use Rattle.board.specs.Inference.Infers.{Obeys}
 use Rattle.board.specs.Paper.Entries.{Shown, _⊑_}
 use Rattle.board.specs.Order.Laws.{⊑-refl}
 use Rattle.board.specs.Paper.Limits.{Within}
 
--- c is b with more shown: within the limits, with the same jobs and tally, above b
-pub record Above (b c : Board) : Type 0 where
+-- c is b with more shown: within the limits, with n jobs, the same tally, and above b
+pub record Above (n : ℕ) (b c : Board) : Type 0 where
   pub within : Within c
-  pub jobs : c .jobs ≡ b .jobs
+  pub jobs : c .jobs ≡ n
   pub tally : c .tally ≡ b .tally
   pub above : view b ⊑ view c
 
 -- a board within its limits is above itself
-pub above-self : (b : Board) → Within b → Above b b
+pub above-self : (b : Board) → Within b → Above (b .jobs) b b
 above-self b h =
     record {
       within = h;
@@ -27,21 +28,27 @@ above-self b h =
       above = ⊑-refl (view b) λ i k a. (h .limits .arcs i k a .0 .0, h .limits .arcs i k a .1 .0);
     }
 
-pub record Extended (b : Board) (f : Fact) (c : Board) : Type 0 where
-  pub more : Above b c
-  pub holds : Holds (view c) f
-  pub least : (w : View) → view b ⊑ w → Obeys w → Holds w f → view c ⊑ w
+-- c is the least board above b that meets P
+pub record Extension (n : ℕ) (P : View → Type 0) (b c : Board) : Type 0 where
+  pub more : Above n b c
+  pub meets : P (view c)
+  pub least : (w : View) → view b ⊑ w → Obeys w → P w → view c ⊑ w
 
--- the outcome of an update: the least such board; or none, and no view above b that obeys the rules shows the fact
+-- that board; or none, and no view above b that obeys the rules meets P
+abbrev pub Extends : ℕ → (View → Type 0) → Board → Option Board → Type 0
+Extends n P b (some c) = Extension n P b c
+Extends n P b none = (w : View) → view b ⊑ w → Obeys w → P w → ⊥
+
+-- one more fact
+abbrev pub Extended : Board → Fact → Board → Type 0
+Extended b f = Extension (b .jobs) (λ w. Holds w f) b
+
 abbrev pub Updated : Board → Fact → Option Board → Type 0
-Updated b f (some c) = Extended b f c
-Updated b f none = (w : View) → view b ⊑ w → Obeys w → Holds w f → ⊥
+Updated b f = Extends (b .jobs) (λ w. Holds w f) b
 
--- c is the least board above b that has one more job, whose row shows r
-pub record Appended (b : Board) (r : Row) (c : Board) : Type 0 where
-  pub within : Within c
-  pub jobs : c .jobs ≡ suc (b .jobs)
-  pub tally : c .tally ≡ b .tally
-  pub above : view b ⊑ view c
-  pub row : rowOf c (b .jobs) ≡ r
-  pub least : (w : View) → view b ⊑ w → b .jobs < w .jobs → Shown r (w .row (b .jobs)) → view c ⊑ w
+-- one more job, numbered n, whose row shows r
+abbrev pub HasRow : ℕ → Row → View → Type 0
+HasRow n r w = (n < w .jobs) × Shown r (w .row n)
+
+abbrev pub Appended : Board → Row → Board → Type 0
+Appended b r = Extension (suc (b .jobs)) (HasRow (b .jobs) r) b

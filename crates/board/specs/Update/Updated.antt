@@ -3,7 +3,7 @@
 use mathlib.Core.Path.{_≡_, refl}
 use mathlib.Core.Logic.{_≢_}
 use mathlib.Core.Bool.{Bool, true, false, cond, _&&_}
-use mathlib.Core.Option.{Option, none, some}
+use mathlib.Core.Option.{none, some}
 use Prim.Native.Nat.{ℕ, _<_, _≤_}
 use native.Mathlib.Omega.{arith}
 use lib.Dec.{eqb}
@@ -21,6 +21,7 @@ use Rattle.board.specs.Inference.Forced.{invalid-unless}
 use Rattle.board.specs.Tests.Live.{live, and-parts, and-both, live-yes, live-show, refuted}
 use Rattle.board.specs.Update.Updates.{store, link, invalidate, raised, validated, roomy, exclude, tighten, update}
 use Rattle.board.specs.Update.Extension.{above-self, Extended, Updated}
+use Rattle.board.specs.Update.Compose.{extends-same}
 use Rattle.board.specs.Update.Stores.{linked-new}
 use Rattle.board.specs.Update.Limits.{store-within, invalidate-within, link-within}
 use Rattle.board.specs.Update.Rows.{raised-mark, raised-bound, raised-above, raised-least, raised-fits, raised-short, validated-above, validated-least, validated-fits}
@@ -37,7 +38,7 @@ module _ (b : Board) (within : Within b) where
   unchanged f h =
       record {
         more = above-self b within;
-        holds = h;
+        meets = h;
         least = λ w up _ _. up;
       }
 
@@ -49,7 +50,7 @@ module _ (b : Board) (within : Within b) where
   rewritten f j r job m fits above holds least =
       record {
         more = record { within = store-within b within j job r m fits; jobs = refl; tally = refl; above = store-above b within j job r above };
-        holds = holds;
+        meets = holds;
         least = λ w up _ h. store-least b within j job r w up (least w up h);
       }
 
@@ -57,7 +58,7 @@ module _ (b : Board) (within : Within b) where
   linked i k li lk ne =
       record {
         more = record { within = link-within b within i k li lk ne; jobs = refl; tally = refl; above = link-above b within i k (li .0) (lk .0) };
-        holds = (li .0, lk .0, λ _ _. linked-new b within i k (li .0) (lk .0));
+        meets = (li .0, lk .0, λ _ _. linked-new b within i k (li .0) (lk .0));
         least = λ w up _. link-least b within i k (li .0) (lk .0) w up;
       }
 
@@ -65,7 +66,7 @@ module _ (b : Board) (within : Within b) where
   invalidated j job m =
       record {
         more = record { within = invalidate-within b within j job; jobs = refl; tally = refl; above = invalidate-above b within j job m };
-        holds = invalidate-shows b within j job;
+        meets = invalidate-shows b within j job;
         least = λ w up _. invalidate-least b within j job w up;
       }
 
@@ -84,18 +85,6 @@ module _ (b : Board) (within : Within b) where
 
       was-invalid : eqb m 2 ≡ true → Extended b (is-invalid j) b
       was-invalid e = unchanged (is-invalid j) (job, eqb-true m 2 e)
-
-  -- an outcome for f is one for g, where f gives g, and g gives f in the views above b that obey the rules
-  instead : (f g : Fact) → ((v : View) → Holds v f → Holds v g)
-      → ((w : View) → view b ⊑ w → Obeys w → Holds w g → Holds w f)
-      → (o : Option Board) → Updated b f o → Updated b g o
-  instead f g to from none h = λ w up obeys k. h w up obeys (from w up obeys k)
-  instead f g to from (some c) h =
-      record {
-        more = h .more;
-        holds = to (view c) (h .holds);
-        least = λ w up obeys k. h .least w up obeys (from w up obeys k);
-      }
 
   -- a bound that is higher than the old one
   raise : (s : Side) (j : ℕ) (z : ℤ) → Live (view b) j → bound s (rowOf b j) ≤ℤ z
@@ -122,7 +111,9 @@ module _ (b : Board) (within : Within b) where
 
       cramped : roomy r ≡ false → Updated b (is-bound s j z) (exclude b j)
       cramped e =
-          instead (is-invalid j) (is-bound s j z) (λ v k. (k .0, λ l. absurd (l .1 (k .1)))) (forced e)
+          extends-same (b .jobs) (λ w. Holds w (is-invalid j)) (λ w. Holds w (is-bound s j z)) b
+          (λ v k. (k .0, λ l. absurd (l .1 (k .1))))
+          (forced e)
           (exclude b j) (excluded j (lj .0))
 
   pub updated : (f : Fact) → Known (b .jobs) f → Updated b f (update b f)

@@ -102,3 +102,9 @@ append b r =
       before = b .before;
       tally = b .tally;
     }
+
+-- one step and then another, where the first finds a board
+infixl 20 _andThen_
+unfoldable pub _andThen_ : Option Board → (Board → Option Board) → Option Board
+none andThen k = none
+some c andThen k = k c

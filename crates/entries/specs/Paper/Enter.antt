@@ -9,7 +9,7 @@ use Rattle.board.specs.declared.Refusal.the-variants as Refused
 use Rattle.board.specs.Paper.Facts.{Fact}
 use Rattle.board.specs.Paper.Limits.{tallyLimit}
 use Rattle.board.specs.Paper.View.{Row}
-use Rattle.board.specs.Update.Updates.{update, append}
+use Rattle.board.specs.Update.Updates.{update, append, _andThen_}
 use Rattle.closure.specs.Closing.{closure}
 use Rattle.closure.specs.Check.{passes}
 use Rattle.entries.specs.declared.Answer.{Answer}
@@ -26,7 +26,7 @@ appendAll b (r ∷ rs) = appendAll (append b r) rs
 -- the facts shown, one after the other, or none where a mark would have to change
 unfoldable pub updateAll : Board → List Fact → Option Board
 updateAll b [] = some b
-updateAll b (f ∷ fs) = elim (update b f) [ none ↦ none | some c ↦ updateAll c fs ]
+updateAll b (f ∷ fs) = update b f andThen (λ c. updateAll c fs)
 
 -- the entry shown by the board, nothing inferred yet
 unfoldable pub raw : Board → Entry → Option Board
@@ -34,7 +34,7 @@ raw b e = updateAll (appendAll b (added e)) (stated e)
 
 -- the closure with the entry, or none where it is a contradiction
 unfoldable pub closureWith : Board → Entry → Option Board
-closureWith b e = elim (raw b e) [ none ↦ none | some c ↦ closure c ]
+closureWith b e = raw b e andThen closure
 
 -- "The board carries a tally of calls answered 8. It starts at 0 and stops at 1000000."
 abbrev pub counted : Board → Board
