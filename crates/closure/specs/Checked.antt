@@ -3,6 +3,7 @@ use mathlib.Core.Path.{_≡_, refl}
 use mathlib.Core.Logic.{_↔_}
 use mathlib.Core.Bool.{true}
 use mathlib.Core.Option.{Option, none, some}
+use Rattle.minutes.specs.Bools.{refuted, and-parts, and-both}
 use Rattle.board.specs.declared.Board.{Board}
 use Rattle.board.specs.Paper.View.{view}
 use Rattle.board.specs.Paper.Facts.{Fact}
@@ -10,7 +11,6 @@ use Rattle.board.specs.Inference.Infers.{Obeys}
 use Rattle.board.specs.Paper.Limits.{Within}
 use Rattle.board.specs.Tests.Limits.{withinLimits}
 use Rattle.board.specs.Tests.LimitsDecided.{limits-yes, limits-show}
-use Rattle.board.specs.Tests.Live.{and-parts, and-both, refuted}
 use Rattle.board.specs.Paper.Entries.{Closed, Least, shown}
 use Rattle.board.specs.Order.Leastness.{handed-in}
 use Rattle.board.specs.Inference.Agrees.{obeys-rules, rules-obey}

@@ -6,13 +6,14 @@ use Prim.Native.Nat.{ℕ, _<_}
 use lib.IntN.{ℤ, pos, _+ℤ_}
 use lib.Signed.{ltZ, _≤ℤ_}
 use borrow.Author.Tests.{ne-eqb}
-use Rattle.minutes.specs.Linear.{whole, plus, is-true, is-false}
+use Rattle.minutes.specs.Bools.{is-true, is-false, refuted}
+use Rattle.minutes.specs.Linear.{whole, plus}
 use Rattle.minutes.specs.Sum.{total-subset, least-member}
 use Rattle.board.specs.Paper.View.{View, Live, Valid, Arc, Side, early, late, bound, Beyond}
 use Rattle.board.specs.Paper.Facts.{Fact}
 use Rattle.board.specs.Paper.Rules.{energy}
 use Rattle.board.specs.Inference.Infers.{Pushing, r1, r2, r3, r45, r6, Obeys}
-use Rattle.board.specs.Tests.Live.{live-show, valid-show, refuted}
+use Rattle.board.specs.Tests.Live.{live-show, valid-show}
 use Rattle.closure.specs.Find.{_orElse_, cramped, tooLate, joined, pushers, pushed, push, next, find}
 use Rattle.closure.specs.FindSound.{beyond-test, pushing}
 use Rattle.closure.specs.Search.{guard-none, orElse-none, first-none, any-show}

@@ -8,11 +8,12 @@ use Prim.Native.Nat.{ℕ}
 use lib.Dec.{eqb}
 use lib.Signed.{leZ, ltZ}
 use borrow.Author.Tests.{eqb-false, not-true}
+use Rattle.minutes.specs.Bools.{refuted}
 use Rattle.minutes.specs.Linear.{whole}
 use Rattle.board.specs.Paper.View.{View, Live, Side, early, late, bound, Beyond}
 use Rattle.board.specs.Paper.Facts.{Fact, is-arc, is-invalid, Holds, Known}
 use Rattle.board.specs.Inference.Infers.{Pushing, Infers, r1, r2, r3, r45, r6}
-use Rattle.board.specs.Tests.Live.{live, valid, live-yes, valid-yes, refuted}
+use Rattle.board.specs.Tests.Live.{live, valid, live-yes, valid-yes}
 use Rattle.closure.specs.Find.{beyond, cramped, tooLate, joined, pushers, pushed, push, next, find}
 use Rattle.closure.specs.Search.{Finds, given, guard-finds, _else_, first-finds, any-member}
 

@@ -8,7 +8,8 @@ use native.Mathlib.Omega.{arith}
 use lib.IntN.{ℤ, pos, negsuc, negℤ, _-ℤ_}
 use lib.Signed.{leZ, _≤ℤ_, _<ℤ_}
 use borrow.Author.Tests.{not-true}
-use Rattle.minutes.specs.Linear.{whole, above, below, plus, minus, is-false}
+use Rattle.minutes.specs.Bools.{is-false, refuted}
+use Rattle.minutes.specs.Linear.{whole, above, below, plus, minus}
 use Rattle.minutes.specs.Sum.{count, count-mono, count-falls, count-bound}
 use Rattle.board.specs.declared.Board.{Board}
 use Rattle.board.specs.Paper.View.{Row, View, Live, Invalid, Side, early, late, bound, view, rowOf, arcOf}
@@ -17,7 +18,7 @@ use Rattle.board.specs.Inference.Infers.{Infers, r1, r2, r3, r45, r6}
 use Rattle.board.specs.Paper.Limits.{IsTime, Fits, Within, jobLimit}
 use Rattle.board.specs.Order.Laws.{live-down, arc-up, bound-up}
 use Rattle.board.specs.Update.Extension.{Above}
-use Rattle.board.specs.Tests.Live.{live, live-yes, live-show, refuted}
+use Rattle.board.specs.Tests.Live.{live, live-yes, live-show}
 use Rattle.closure.specs.Closing.{steps}
 use Rattle.closure.specs.Search.{given}
 

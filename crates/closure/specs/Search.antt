@@ -7,8 +7,8 @@ use mathlib.Core.Option.{Option, none, some}
 use Prim.Native.Nat.{ℕ, zero, suc, _<_}
 use native.Mathlib.Omega.{arith}
 use borrow.Author.Count.{below-more}
+use Rattle.minutes.specs.Bools.{clash, refuted}
 use Rattle.board.specs.Paper.Facts.{Fact}
-use Rattle.board.specs.Tests.Live.{refuted}
 use Rattle.closure.specs.Find.{guard, _orElse_, first, any}
 
 -- `tests a (b ∷ c ∷ [])` is `a && b && c`
@@ -38,7 +38,7 @@ found-it : {P : Fact → Type 0} (f : Fact) → P f → Finds P (some f)
 found-it {P} f h = record { found = λ g e. let same : f ≡ g = cc in subst P same h }
 
 found-nothing : {P : Fact → Type 0} → Finds P none
-found-nothing = record { found = λ f e. let z : _≡_ {A = ℕ} 0 1 = cc in absurd (omega arith) }
+found-nothing = record { found = λ f e. clash (cc) }
 
 pub guard-finds : {P : Fact → Type 0} (a : Bool) (l : List Bool) (f : Fact) → Given a l (P f) → Finds P (guard (tests a l) f)
 unfolding guard
@@ -61,13 +61,13 @@ first-finds (suc n) g h = first-finds n g h else h n
 
 pub guard-none : (t : Bool) (f : Fact) → guard t f ≡ none → t ≡ false
 unfolding guard
-guard-none true f e = let z : _≡_ {A = ℕ} 0 1 = cc in absurd (omega arith)
+guard-none true f e = clash (cc)
 guard-none false f e = refl
 
 pub orElse-none : (o p : Option Fact) → (o orElse p) ≡ none → (o ≡ none) × (p ≡ none)
 unfolding _orElse_
 orElse-none none p e = (refl, e)
-orElse-none (some f) p e = let z : _≡_ {A = ℕ} 0 1 = cc in absurd (omega arith)
+orElse-none (some f) p e = clash (cc)
 
 pub first-none : (n : ℕ) (g : ℕ → Option Fact) → first n g ≡ none → (k : ℕ) → k < n → g k ≡ none
 unfolding first

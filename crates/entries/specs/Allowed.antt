@@ -10,13 +10,13 @@ use lib.Dec.{eqb}
 use lib.IntN.{ℤ, pos, negsuc}
 use lib.Signed.{leZ, ltZ}
 use borrow.Author.Tests.{leb-false, not-false}
+use Rattle.minutes.specs.Bools.{clash, refuted, and-parts, and-both}
 use Rattle.minutes.specs.Linear.{whole, below}
 use Rattle.board.specs.declared.Refusal.{Refusal}
 use Rattle.board.specs.declared.Refusal.the-variants as Refused
 use Rattle.board.specs.Paper.View.{Side}
 use Rattle.board.specs.Paper.Facts.{Fact, is-bound, is-valid, is-invalid, Known}
 use Rattle.board.specs.Paper.Limits.{IsTime, Fits, jobLimit}
-use Rattle.board.specs.Tests.Live.{and-parts, and-both, refuted}
 use Rattle.board.specs.Tests.Decides.{Decides, _and_}
 use Rattle.board.specs.Tests.LimitsDecided.{decides-between, decides-time, decides-length}
 use Rattle.entries.specs.Paper.Entry.{Entry, addition, arc, mark, cut, number, addedRow, added, stated}
@@ -30,7 +30,7 @@ Allowed n (mark j m) = (number j < n) × (1 ≤ number m) × (number m ≤ 2)
 Allowed n (cut j e d) = (number j < n) × IsTime e × IsTime d
 
 some-none : {A : Type 0} {a : A} → _≡_ {A = Option A} (some a) none → ⊥
-some-none {a} e = let z : _≡_ {A = ℕ} 0 1 = cc in omega arith
+some-none {a} e = clash (cc)
 
 -- a check that is not met, and those after it
 passed : (c : Check) (cs : List Check) → gate (c ∷ cs) ≡ none → (c .met ≡ false) × (gate cs ≡ none)
@@ -118,7 +118,7 @@ weaker t u cs h g =
 
 -- an arc, mark or cut that meets no refusal of the table meets none on a board of more jobs either
 pub gate-more : (n m : ℕ) → n ≤ m → (e : Entry) → added e ≡ [] → gate (checks n e) ≡ none → gate (checks m e) ≡ none
-gate-more n m le (addition l x d k) none-added g = let z : _≡_ {A = ℕ} 0 1 = cc in absurd (omega arith)
+gate-more n m le (addition l x d k) none-added g = clash (cc)
 gate-more n m le (arc a b) none-added g = weaker (isJob n a && isJob n b) (isJob m a && isJob m b) _ both g
   where
     both : (isJob n a && isJob n b) ≡ true → (isJob m a && isJob m b) ≡ true

@@ -7,11 +7,11 @@ use Prim.Native.Nat.{ℕ, _<_}
 use native.Mathlib.Omega.{arith}
 use lib.Dec.{ltb}
 use borrow.Author.Tests.{ltb-true}
+use Rattle.minutes.specs.Bools.{clash, and-parts}
 use Rattle.board.specs.declared.Board.{Board}
 use Rattle.board.specs.declared.Refusal.{Refusal}
 use Rattle.board.specs.declared.Refusal.the-variants as Refused
 use Rattle.board.specs.Paper.Refusals.{numberOf}
-use Rattle.board.specs.Tests.Live.{and-parts}
 use Rattle.entries.specs.declared.Answer.the-variants as Answers
 use Rattle.entries.specs.declared.Entered.{Entered}
 use Rattle.entries.specs.Paper.Entry.{Entry, addition, arc, mark, cut}
@@ -26,7 +26,7 @@ low (c ∷ cs) = ltb (numberOf (c .refusal)) 8 && low cs
 
 gate-low : (cs : List Check) (r : Refusal) → low cs ≡ true → gate cs ≡ some r → numberOf r < 8
 unfolding low gate
-gate-low [] r l g = let z : _≡_ {A = ℕ} 0 1 = cc in absurd (omega arith)
+gate-low [] r l g = clash (cc)
 gate-low (c ∷ cs) r l g = go (c .met) refl (and-parts (ltb (numberOf (c .refusal)) 8) (low cs) l) (λ h. gate-low cs r h)
   where
     go : (t : Bool) → c .met ≡ t → (ltb (numberOf (c .refusal)) 8 ≡ true) × (low cs ≡ true)
@@ -54,10 +54,10 @@ not-by-table n e r g q =
     omega arith
 
 pub not-refused : (n : ℕ) (e : Entry) (r : Refusal) → acceptance n e ≡ Answers.Refused r → ⊥
-not-refused n (addition l x d m) r q = let z : _≡_ {A = ℕ} 0 1 = cc in omega arith
-not-refused n (arc a b) r q = let z : _≡_ {A = ℕ} 0 1 = cc in omega arith
-not-refused n (mark j m) r q = let z : _≡_ {A = ℕ} 0 1 = cc in omega arith
-not-refused n (cut j x d) r q = let z : _≡_ {A = ℕ} 0 1 = cc in omega arith
+not-refused n (addition l x d m) r q = clash (cc)
+not-refused n (arc a b) r q = clash (cc)
+not-refused n (mark j m) r q = clash (cc)
+not-refused n (cut j x d) r q = clash (cc)
 
 -- a call that was answered 8 met none of the checks 1 to 7, and the closure with its entry is a contradiction
 pub answered-impossible : (b : Board) (e : Entry) (C : Type 0) (B : Board → Type 0) (x : Entered) → Ends b e C B x

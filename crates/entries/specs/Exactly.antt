@@ -3,10 +3,10 @@ use mathlib.Core.Path.{_≡_, refl, subst}
 use mathlib.Core.Logic.{_↔_, _≢_}
 use mathlib.Core.Bool.{Bool, true, false, cond}
 use mathlib.Core.Option.{none}
-use Prim.Native.Nat.{ℕ}
 use native.Mathlib.Omega.{arith}
 use lib.Dec.{eqb}
 use borrow.Author.Tests.{ne-eqb}
+use Rattle.minutes.specs.Bools.{clash}
 use Rattle.board.specs.declared.Board.{Board}
 use Rattle.board.specs.declared.Refusal.{Refusal}
 use Rattle.board.specs.declared.Refusal.the-variants as Refused
@@ -26,7 +26,7 @@ use Rattle.entries.specs.Stepped.{enter-checked, enter-refused}
 -- whatever the entries are that the board shows
 outcome-exactly : (es : Entries) (b : Board) (e : Entry) (x : Entered) → Outcome es b e x → gate (checks (b .jobs) e) ≡ none
     → (x .answer ≡ Answers.Refused Refused.Impossible) ↔ Contradiction (withEntry es e)
-outcome-exactly es b e _ (by-table r h) g = let z : _≡_ {A = ℕ} 0 1 = cc in absurd (omega arith)
+outcome-exactly es b e _ (by-table r h) g = clash (cc)
 outcome-exactly es b e _ (impossible h k) g = (λ q. k, λ k′. refl)
 outcome-exactly es b e _ (accepted h c l t) g =
     (λ q. absurd (not-refused (b .jobs) e Refused.Impossible q), λ k. absurd (k c (l .closed)))

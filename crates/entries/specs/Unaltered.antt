@@ -7,6 +7,7 @@ use mathlib.Core.Option.{none}
 use Prim.Native.Nat.{ℕ}
 use native.Mathlib.Omega.{arith}
 use lib.IntN.{ℤ}
+use Rattle.minutes.specs.Bools.{clash}
 use Rattle.board.specs.declared.Board.{Board}
 use Rattle.board.specs.Paper.View.{View, Live, Invalid, Side, view}
 use Rattle.board.specs.Paper.Facts.{Fact, is-bound, Holds}
@@ -34,7 +35,7 @@ withoutEffect b = record { answer = Answers.Accepted; board = b }
 
 -- an arc, mark or cut adds no job and gives no number
 adds-none : (es : Entries) (n : ℕ) (e : Entry) → added e ≡ [] → (withEntry es e .jobs ≡ es .jobs) × (acceptance n e ≡ Answers.Accepted)
-adds-none es n (addition l x d m) none-added = let z : _≡_ {A = ℕ} 0 1 = cc in absurd (omega arith)
+adds-none es n (addition l x d m) none-added = clash (cc)
 adds-none es n (arc a b) none-added = (refl, refl)
 adds-none es n (mark j m) none-added = (refl, refl)
 adds-none es n (cut j x d) none-added = (refl, refl)
@@ -66,7 +67,7 @@ unaltered b e p none-added g holds = ends (enter b e) (enter-checked b e p)
         }
 
     ends : (x : Entered) → Outcome es b e x → x ≡ withoutEffect b
-    ends _ (by-table r h) = let z : _≡_ {A = ℕ} 0 1 = cc in absurd (omega arith)
+    ends _ (by-table r h) = clash (cc)
     ends _ (impossible h k) = absurd (k b (least .closed))
     ends _ (accepted h c l t) =
         let same = equal-boards c b (l .closed .within) (passes-within b p) (record { same = least-unique (withEntry es e) c b l least; tally = t }) in
@@ -83,7 +84,7 @@ reached-later : (b c : Board) → Reached (shown (view b)) c → Later b c
 reached-later b c r = record { passes = obeys-passes c (r .within) (r .obeys); above = r .shows .atLeast }
 
 no-addition : (n : ℕ) (e : Entry) → acceptance n e ≡ Answers.Accepted → added e ≡ []
-no-addition n (addition l x d m) q = let z : _≡_ {A = ℕ} 0 1 = cc in absurd (omega arith)
+no-addition n (addition l x d m) q = clash (cc)
 no-addition n (arc a b) q = refl
 no-addition n (mark j m) q = refl
 no-addition n (cut j x d) q = refl
@@ -102,8 +103,8 @@ module _ (b : Board) (e : Entry) (p : passes b ≡ true) where
   -- an accepted arc, mark or cut met no refusal, and its board shows it
   shown-after : (x : Entered) → Step (shown (view b)) b e x → x .answer ≡ Answers.Accepted
       → (gate (checks (b .jobs) e) ≡ none) × (added e ≡ []) × HoldAll (stated e) (view (x .board))
-  shown-after _ (by-table r g) q = let z : _≡_ {A = ℕ} 0 1 = cc in absurd (omega arith)
-  shown-after _ (impossible g i) q = let z : _≡_ {A = ℕ} 0 1 = cc in absurd (omega arith)
+  shown-after _ (by-table r g) q = clash (cc)
+  shown-after _ (impossible g i) q = clash (cc)
   shown-after _ (accepted g c r t) q =
       (g, no-addition (b .jobs) e q, with-split (shown (view b)) (view c) e (r .shows .atLeast) .1 .facts)
 
@@ -120,7 +121,7 @@ accepted-passes b e q = go (passes b) refl
   where
     go : (t : Bool) → passes b ≡ t → passes b ≡ true
     go true p = p
-    go false p = let z : _≡_ {A = ℕ} 0 1 = cc (enter-refused b e p) in absurd (omega arith)
+    go false p = clash (cc (enter-refused b e p))
 
 -- "Repeating an accepted arc, mark or cut is accepted", at once or after any other calls, and has no effect
 pub repeated : (b : Board) (e : Entry) (cs : List Call) → enter b e .answer ≡ Answers.Accepted

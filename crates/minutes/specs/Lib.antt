@@ -1,4 +1,5 @@
 -- Times as whole minutes, negative ones too.
+pub mod Bools
 pub mod Linear
 pub mod Sum
 pub mod Packing

@@ -8,6 +8,7 @@ use lib.Dec.{ltb, leb→le, le→leb, ltb→lt, lt→ltb}
 use lib.IntN.{ℤ, pos, negsuc, negℤ, subℕ, _+ℤ_}
 use lib.Signed.{leZ, ltZ, _≤ℤ_, _<ℤ_}
 use borrow.Author.Tests.{ltb-true, ltb-false, leb-false}
+use Rattle.minutes.specs.Bools.{clash, is-true, is-false}
 
 abbrev pub above : ℤ → ℕ
 above (pos n) = n
@@ -79,22 +80,14 @@ ltZ-true a b e = lt-read a b (record { lt = rw e tt })
 pub leZ-false : (a b : ℤ) → leZ a b ≡ false → above b + below a < above a + below b
 leZ-false (pos a) (pos b) e = omega (arith, leb-false a b e)
 leZ-false (pos a) (negsuc b) e = omega arith
-leZ-false (negsuc a) (pos b) e = let z : _≡_ {A = ℕ} 0 1 = cc in omega arith
+leZ-false (negsuc a) (pos b) e = clash (cc)
 leZ-false (negsuc a) (negsuc b) e = omega (arith, leb-false b a e)
 
 pub ltZ-false : (a b : ℤ) → ltZ a b ≡ false → above b + below a ≤ above a + below b
 ltZ-false (pos a) (pos b) e = omega (arith, ltb-false a b e)
 ltZ-false (pos a) (negsuc b) e = omega arith
-ltZ-false (negsuc a) (pos b) e = let z : _≡_ {A = ℕ} 0 1 = cc in omega arith
+ltZ-false (negsuc a) (pos b) e = clash (cc)
 ltZ-false (negsuc a) (negsuc b) e = omega (arith, ltb-false b a e)
-
-pub is-true : (t : Bool) → (t ≡ false → ⊥) → t ≡ true
-is-true true h = refl
-is-true false h = absurd (h refl)
-
-pub is-false : (t : Bool) → (t ≡ true → ⊥) → t ≡ false
-is-false false h = refl
-is-false true h = absurd (h refl)
 
 pub leZ-show : (a b : ℤ) → above a + below b ≤ above b + below a → leZ a b ≡ true
 leZ-show a b h = is-true (leZ a b) λ e. omega (arith, leZ-false a b e)

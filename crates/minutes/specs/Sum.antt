@@ -10,6 +10,7 @@ use lib.IntN.{ℤ, pos, _+ℤ_}
 use lib.Signed.{_≤ℤ_, ltZ}
 use borrow.Author.Count.{below-more}
 use borrow.Author.Tests.{leb-true, leb-false}
+use Rattle.minutes.specs.Bools.{clash}
 use Rattle.minutes.specs.Linear.{whole, plus}
 
 -- the sum of f k for each k below n
@@ -68,7 +69,7 @@ total-subset n S R f h p = sum-mono n (chosen S f) (chosen R f) λ k l. at (S k)
   where
     at : (s r : Bool) (x : ℤ) → (s ≡ true → r ≡ true) → (r ≡ true → pos 0 ≤ℤ x) → cond s x (pos 0) ≤ℤ cond r x (pos 0)
     at true true x e q = omega whole
-    at true false x e q = let z : _≡_ {A = ℕ} 0 1 = cc (e refl) in absurd (omega arith)
+    at true false x e q = clash (cc (e refl))
     at false true x e q = q refl
     at false false x e q = omega whole
 
@@ -94,7 +95,7 @@ least-member n S f x l s = upto n (omega arith)
     step : (i : ℕ) → i < n → (y : ℕ) → y < n → S y ≡ true → ((k : ℕ) → k < i → Above y k) → (p q : Bool) → S i ≡ p → ltZ (f i) (f y) ≡ q → Least (suc i)
     step i b y c t h true true d e = (i, b, d, λ k a. below-more (Above i) i (λ m r u. omega (whole, h m r u)) (λ u. omega whole) k (omega arith))
     step i b y c t h true false d e = (y, c, t, λ k a. below-more (Above y) i h (λ u. omega whole) k (omega arith))
-    step i b y c t h false q d e = (y, c, t, λ k a. below-more (Above y) i h (λ u. let z : _≡_ {A = ℕ} 0 1 = cc in absurd (omega arith)) k (omega arith))
+    step i b y c t h false q d e = (y, c, t, λ k a. below-more (Above y) i h (λ u. clash (cc)) k (omega arith))
 
     upto : (i : ℕ) → i ≤ n → Least i
     upto zero b = (x, l, s, λ k c t. absurd (omega arith))

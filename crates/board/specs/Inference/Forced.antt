@@ -6,7 +6,8 @@ use native.Mathlib.Decide.{ℕ-discrete}
 use native.Mathlib.Omega.{arith}
 use lib.IntN.{ℤ, _+ℤ_}
 use lib.Signed.{_≤ℤ_, _<ℤ_}
-use Rattle.minutes.specs.Linear.{whole, plus, is-false}
+use Rattle.minutes.specs.Bools.{is-false}
+use Rattle.minutes.specs.Linear.{whole, plus}
 use Rattle.minutes.specs.Sum.{total-same, total-more}
 use Rattle.board.specs.Paper.View.{View, Live, Valid, Invalid, Side, bound}
 use Rattle.board.specs.Paper.Facts.{Fact, is-arc, is-bound, is-invalid, Holds}

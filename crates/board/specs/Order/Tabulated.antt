@@ -8,9 +8,9 @@ use native.Mathlib.Omega.{arith}
 use lib.Dec.{ltb}
 use lib.ListN.{length, getD}
 use borrow.Author.Tests.{lt-ltb}
+use Rattle.minutes.specs.Bools.{is-false}
 use Rattle.words.specs.Bit.{bit, setOf}
 use Rattle.words.specs.BitLaws.{bit-zero, bit-ext, bit-setOf}
-use Rattle.minutes.specs.Linear.{is-false}
 use Rattle.board.specs.declared.Board.{Board}
 use Rattle.board.specs.Paper.View.{Row, View, Arc, view, arcOf, arcIntoOf}
 use Rattle.board.specs.Paper.Limits.{jobLimit, tallyLimit, zeroRow, Limited, Shape, Within}

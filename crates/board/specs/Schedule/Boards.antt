@@ -7,6 +7,7 @@ use Prim.Native.Nat.{ℕ, _<_}
 use native.Mathlib.Decide.{decLt}
 use native.Mathlib.Omega.{arith}
 use borrow.Author.Tests.{lt-ltb, le-ltb}
+use Rattle.minutes.specs.Bools.{refuted}
 use Rattle.minutes.specs.Linear.{whole, plus}
 use Rattle.board.specs.declared.Board.{Board}
 use Rattle.board.specs.Paper.View.{Live, Arc, view}
@@ -15,7 +16,6 @@ use Rattle.board.specs.Paper.Entries.{Entries, Admissible, Closed, Least
 use Rattle.board.specs.Paper.Schedules.{Placing, Placed, Schedule, Keeps}
 use Rattle.board.specs.Order.Tabulated.{boardOf, closed-board, least-below}
 use Rattle.board.specs.Update.Limits.{live-row, invalid-row, blank-row}
-use Rattle.board.specs.Tests.Live.{refuted}
 use Rattle.board.specs.Schedule.Scheduled.{placedRow, absentRow, scheduled, placed-live, arc-read}
 use Rattle.board.specs.Schedule.Obeys.{scheduled-obeys}
 use Rattle.board.specs.Schedule.Shows.{scheduled-shows, kept}

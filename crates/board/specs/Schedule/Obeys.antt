@@ -5,13 +5,13 @@ use mathlib.Core.Bool.{Bool, true}
 use Prim.Native.Nat.{ℕ}
 use lib.IntN.{ℤ, pos, _+ℤ_}
 use lib.Signed.{_≤ℤ_, _<ℤ_}
+use Rattle.minutes.specs.Bools.{refuted}
 use Rattle.minutes.specs.Linear.{whole, plus, minus}
 use Rattle.minutes.specs.Packing.{Apart, packing}
 use Rattle.board.specs.Paper.View.{View, Live, Arc, Side, early, late, bound, Beyond}
 use Rattle.board.specs.Paper.Rules.{energy}
 use Rattle.board.specs.Inference.Infers.{Pushing, r1, r2, r3, r45, r6, Obeys}
 use Rattle.board.specs.Inference.Forced.{valid-live}
-use Rattle.board.specs.Tests.Live.{refuted}
 use Rattle.board.specs.Paper.Entries.{Entries, Admissible}
 use Rattle.board.specs.Paper.Schedules.{Placing, Placed, Schedule}
 use Rattle.board.specs.Schedule.Scheduled.{scheduled, live-placed, arc-read, arc-show}

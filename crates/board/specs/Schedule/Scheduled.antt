@@ -6,12 +6,12 @@ use native.Mathlib.Omega.{arith}
 use lib.Dec.{ltb}
 use lib.Signed.{leZ, _≤ℤ_}
 use borrow.Author.Tests.{lt-ltb}
-use Rattle.minutes.specs.Linear.{whole, is-true}
+use Rattle.minutes.specs.Bools.{is-true, and-parts}
+use Rattle.minutes.specs.Linear.{whole}
 use Rattle.board.specs.Paper.View.{Row, View, Live, Arc}
 use Rattle.board.specs.Paper.Limits.{zeroRow}
 use Rattle.board.specs.Paper.Entries.{Entries}
 use Rattle.board.specs.Paper.Schedules.{Placing, Placed, end}
-use Rattle.board.specs.Tests.Live.{and-parts}
 
 -- the row of a job that takes place: it fills its window
 abbrev pub placedRow : Entries → Placing → ℕ → Row

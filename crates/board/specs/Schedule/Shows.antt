@@ -4,12 +4,11 @@ use mathlib.Core.Bool.{Bool, true, false, cond}
 use Prim.Native.Nat.{ℕ, _<_}
 use native.Mathlib.Omega.{arith}
 use borrow.Author.Tests.{lt-ltb}
-use Rattle.minutes.specs.Linear.{is-false}
+use Rattle.minutes.specs.Bools.{is-false, refuted}
 use Rattle.board.specs.Paper.View.{View, Live, early, late}
 use Rattle.board.specs.Paper.Facts.{Fact, is-arc, is-bound, is-valid, is-invalid, Holds, Known}
 use Rattle.board.specs.Order.Laws.{shown-invalid, valid-up, arc-up}
 use Rattle.board.specs.Inference.Forced.{valid-live}
-use Rattle.board.specs.Tests.Live.{refuted}
 use Rattle.board.specs.Paper.Entries.{Entries, Admissible, Shown, Shows, Drawn, drawn, shown, _⊑_}
 use Rattle.board.specs.Paper.Schedules.{Placing, Placed, end, Respects, Schedule, Keeps}
 use Rattle.board.specs.Schedule.Scheduled.{placedRow, absentRow, scheduled, live-placed, placed-live, arc-read, arc-show}

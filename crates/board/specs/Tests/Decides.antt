@@ -7,8 +7,7 @@ use native.Mathlib.Omega.{arith}
 use lib.Dec.{eqb, leb, ltb}
 use borrow.Author.Count.{below-more}
 use borrow.Author.Tests.{leb-true, le-leb, ltb-true, lt-ltb, eqb-true, eq-eqb, not-true}
-use Rattle.minutes.specs.Linear.{is-false}
-use Rattle.board.specs.Tests.Live.{and-parts, and-both, refuted}
+use Rattle.minutes.specs.Bools.{is-false, refuted, and-parts, and-both}
 use Rattle.board.specs.Tests.Limits.{all, implies}
 
 pub record Decides (t : Bool) (P : Type 0) : Type 0 where

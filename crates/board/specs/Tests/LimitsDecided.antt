@@ -10,13 +10,14 @@ use native.Mathlib.Omega.{arith}
 use lib.IntN.{ℤ, pos}
 use lib.ListN.{length, getD, List·getD-eq-default}
 use lib.Signed.{leZ, _≤ℤ_}
+use Rattle.minutes.specs.Bools.{is-false, refuted}
 use Rattle.words.specs.Bit.{bit}
 use Rattle.words.specs.BitLaws.{bit-high, bit-zero, bits-bound}
-use Rattle.minutes.specs.Linear.{whole, is-false}
+use Rattle.minutes.specs.Linear.{whole}
 use Rattle.board.specs.declared.Board.{Board}
 use Rattle.board.specs.Paper.View.{Row, view, rowOf, arcOf, arcIntoOf, Live, Arc}
 use Rattle.board.specs.Paper.Limits.{jobLimit, tallyLimit, IsTime, IsLength, Fits, zeroRow, RowLimits, Shape, Within}
-use Rattle.board.specs.Tests.Live.{live, live-yes, live-show, refuted}
+use Rattle.board.specs.Tests.Live.{live, live-yes, live-show}
 use Rattle.board.specs.Tests.Limits.{between, isTime, isLength, isZero, fits, isZeroRow, full, shape, holdsJob, holdsNothing, joinable, agrees, withinLimits}
 use Rattle.board.specs.Tests.Decides.{Decides, restated, _and_, implied, negated, every, holds, le, lt, eq, same}
 

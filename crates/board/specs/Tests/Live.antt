@@ -1,10 +1,10 @@
 -- The tests of live and of valid, as the code makes them, and what they decide.
-use mathlib.Core.Path.{_≡_, refl}
+use mathlib.Core.Path.{_≡_}
 use mathlib.Core.Bool.{Bool, true, false, not, _&&_}
 use Prim.Native.Nat.{ℕ}
-use native.Mathlib.Omega.{arith}
 use lib.Dec.{eqb, ltb}
 use borrow.Author.Tests.{ltb-true, lt-ltb, eqb-true, eq-eqb, eqb-false, ne-eqb, not-true}
+use Rattle.minutes.specs.Bools.{refuted, and-parts}
 use Rattle.board.specs.Paper.View.{View, Live, Valid}
 
 unfoldable pub live : View → ℕ → Bool
@@ -12,17 +12,6 @@ live v j = ltb j (v .jobs) && not (eqb (v .row j .mark) 2)
 
 unfoldable pub valid : View → ℕ → Bool
 valid v j = ltb j (v .jobs) && eqb (v .row j .mark) 1
-
-pub and-parts : (a b : Bool) → (a && b) ≡ true → (a ≡ true) × (b ≡ true)
-and-parts true b e = (refl, e)
-and-parts false b e = let z : _≡_ {A = ℕ} 0 1 = cc in absurd (omega arith)
-
-pub and-both : (a b : Bool) → a ≡ true → b ≡ true → (a && b) ≡ true
-and-both a b p q = rw (p, q)
-
--- a test that failed was not true
-pub refuted : {t : Bool} → t ≡ false → t ≡ true → ⊥
-refuted {t} p q = let z : _≡_ {A = ℕ} 0 1 = cc in omega arith
 
 module _ (v : View) (j : ℕ) where
   pub live-yes : live v j ≡ true → Live v j

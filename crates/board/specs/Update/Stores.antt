@@ -12,13 +12,12 @@ use lib.IntN.{pos}
 use lib.ListN.{length, getD, set, length-map, List·getD-map}
 use lib.Seq.{getD-set-same, getD-set-other}
 use borrow.Author.Tests.{eqb-true, eqb-false, eq-eqb, ne-eqb, not-true}
+use Rattle.minutes.specs.Bools.{is-false, and-parts}
 use Rattle.words.specs.Bit.{bit, with, without}
 use Rattle.words.specs.BitLaws.{bit-zero, bit-with, bit-without, bit-ext, bits-bound}
-use Rattle.minutes.specs.Linear.{is-false}
 use Rattle.board.specs.declared.Board.{Board}
 use Rattle.board.specs.Paper.View.{Row, Arc, rowOf, arcOf, arcIntoOf, view}
 use Rattle.board.specs.Paper.Limits.{jobLimit, Shape, Within}
-use Rattle.board.specs.Tests.Live.{and-parts}
 use Rattle.board.specs.Update.Updates.{store, link, isolate, invalidate}
 
 -- the arrays have a place for every job

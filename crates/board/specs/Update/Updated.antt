@@ -10,6 +10,7 @@ use lib.Dec.{eqb}
 use lib.IntN.{ℤ}
 use lib.Signed.{_≤ℤ_, ltZ}
 use borrow.Author.Tests.{eqb-true, eqb-false}
+use Rattle.minutes.specs.Bools.{refuted, and-parts, and-both}
 use Rattle.minutes.specs.Linear.{whole}
 use Rattle.board.specs.declared.Board.{Board}
 use Rattle.board.specs.Paper.View.{Row, View, Live, Invalid, Side, bound, rowOf, view}
@@ -18,7 +19,7 @@ use Rattle.board.specs.Inference.Infers.{Obeys, r6}
 use Rattle.board.specs.Paper.Limits.{Fits, Within}
 use Rattle.board.specs.Paper.Entries.{Shown, _⊑_}
 use Rattle.board.specs.Inference.Forced.{invalid-unless}
-use Rattle.board.specs.Tests.Live.{live, and-parts, and-both, live-yes, live-show, refuted}
+use Rattle.board.specs.Tests.Live.{live, live-yes, live-show}
 use Rattle.board.specs.Update.Updates.{store, link, invalidate, raised, validated, roomy, exclude, tighten, update}
 use Rattle.board.specs.Update.Extension.{above-self, Extended, Updated}
 use Rattle.board.specs.Update.Compose.{extends-same}

@@ -1,0 +1,28 @@
+-- What the outcome of a Boolean test tells, and what a clash of constructors does.
+use mathlib.Core.Path.{_≡_, refl}
+use mathlib.Core.Bool.{Bool, true, false, _&&_}
+use Prim.Native.Nat.{ℕ}
+use native.Mathlib.Omega.{arith}
+
+-- `clash (cc)` proves anything where two constructors in reach would have to be equal
+pub clash {ℓ} : {A : Type ℓ} → _≡_ {A = ℕ} 0 1 → A
+clash e = absurd (omega (arith, e))
+
+pub is-true : (t : Bool) → (t ≡ false → ⊥) → t ≡ true
+is-true true h = refl
+is-true false h = absurd (h refl)
+
+pub is-false : (t : Bool) → (t ≡ true → ⊥) → t ≡ false
+is-false false h = refl
+is-false true h = absurd (h refl)
+
+-- a test that failed was not true
+pub refuted : {t : Bool} → t ≡ false → t ≡ true → ⊥
+refuted {t} p q = clash (cc)
+
+pub and-parts : (a b : Bool) → (a && b) ≡ true → (a ≡ true) × (b ≡ true)
+and-parts true b e = (refl, e)
+and-parts false b e = clash (cc)
+
+pub and-both : (a b : Bool) → a ≡ true → b ≡ true → (a && b) ≡ true
+and-both a b p q = rw (p, q)
