@@ -14,3 +14,4 @@ pub mod Played
 pub mod Orderless
 pub mod Exactly
 pub mod Unaltered
+pub mod HandedIn

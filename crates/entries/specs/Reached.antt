@@ -25,22 +25,7 @@ use Rattle.entries.specs.Settles.{Settled, SettledTo}
 
 -- no limit but its own reads the tally
 within-counted : (b : Board) → Within b → Within (counted b)
-within-counted b h =
-    let s = h .shape in
-    record {
-      shape =
-          record {
-            lengths = s .lengths;
-            earliest = s .earliest;
-            latest = s .latest;
-            marks = s .marks;
-            after = s .after;
-            before = s .before;
-          };
-      limits = h .limits;
-      twice = h .twice;
-      tally = omega arith;
-    }
+within-counted b h = record { shape = h .shape; limits = h .limits; twice = h .twice; tally = omega arith }
 
 pub record Reached (es : Entries) (b : Board) : Type 0 where
   pub within : Within b

@@ -7,6 +7,7 @@ use lib.Signed.{_≤ℤ_}
 use Rattle.minutes.specs.Linear.{whole, minus}
 use Rattle.board.specs.Paper.View.{Row, View, Live, Valid, Invalid, Arc, Side, early, late, bound, Beyond}
 use Rattle.board.specs.Paper.Facts.{Fact, is-arc, is-bound, is-valid, is-invalid, Holds}
+use Rattle.board.specs.Paper.Limits.{Limited}
 use Rattle.board.specs.Paper.Entries.{Entries, Shown, AtLeast, Drawn, drawn, shown, _⊑_}
 
 pub shown-refl : (r : Row) → Shown r r
@@ -79,11 +80,12 @@ module _ (v w : View) (up : v ⊑ w) where
         facts = λ f e. holds-up f (h .facts f e);
       }
 
-pub ⊑-refl : (v : View) → ((i k : ℕ) → Arc v i k → (i < v .jobs) × (k < v .jobs)) → v ⊑ v
-⊑-refl v arcs = record { jobs = omega arith; rows = λ k l. shown-refl (v .row k); facts = facts }
+-- an arc joins jobs of the view, so that it shows its own arcs
+pub ⊑-refl : (v : View) → Limited v → v ⊑ v
+⊑-refl v limits = record { jobs = omega arith; rows = λ k l. shown-refl (v .row k); facts = facts }
   where
     facts : (f : Fact) → Drawn v f → Holds v f
-    facts _ (drawn i k a) = (arcs i k a .0, arcs i k a .1, λ li lk. a)
+    facts _ (drawn i k a) = let (li, lk, _) = limits .arcs i k a in (li .0, lk .0, λ _ _. a)
 
 pub ⊑-trans : (u v w : View) → u ⊑ v → v ⊑ w → u ⊑ w
 ⊑-trans u v w h k = atLeast-up v w k (shown u) h

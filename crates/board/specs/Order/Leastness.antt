@@ -1,9 +1,8 @@
 -- Leastness against every view that shows at least the entries and obeys the rules: the form that passes from one entry
 -- to the next. It gives the paper's leastness and contradiction, which speak of closed boards.
 use mathlib.Core.Path.{refl}
-use Prim.Native.Nat.{ℕ, _<_}
 use Rattle.board.specs.declared.Board.{Board}
-use Rattle.board.specs.Paper.View.{View, Arc, view}
+use Rattle.board.specs.Paper.View.{View, view}
 use Rattle.board.specs.Paper.Rules.{Rules}
 use Rattle.board.specs.Inference.Infers.{Obeys}
 use Rattle.board.specs.Paper.Limits.{Within}
@@ -31,10 +30,7 @@ below-shown v w up obeys = up
 
 -- a board handed in that is within the limits and keeps the rules is the least closed board over what it shows
 pub handed-in : (b : Board) → Within b → Rules (view b) → Least (shown (view b)) b
-handed-in b within rules = below-least (shown (view b)) b closed (below-shown (view b))
-  where
-    ends : (i k : ℕ) → Arc (view b) i k → (i < b .jobs) × (k < b .jobs)
-    ends i k a = let (li, lk, ne) = within .limits .arcs i k a in (li .0, lk .0)
-
-    closed : Closed (shown (view b)) b
-    closed = record { within = within; shows = record { count = refl; atLeast = ⊑-refl (view b) ends }; rules = rules }
+handed-in b within rules =
+    below-least (shown (view b)) b
+    (record { within = within; shows = record { count = refl; atLeast = ⊑-refl (view b) (within .limits) }; rules = rules })
+    (below-shown (view b))

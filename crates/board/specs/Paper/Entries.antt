@@ -51,8 +51,8 @@ pub data Drawn (v : View) : Fact → Type 0 where
 abbrev pub shown : View → Entries
 shown v = record { jobs = v .jobs; row = v .row; facts = Drawn v }
 
--- Boards are ordered by how much they show: v ⊑ w when the invalid marks, arcs, raised E and lowered D of v are in w,
--- "where a job that the other board has invalid is not compared".
+-- Boards are ordered by how much they show: v ⊑ w when the "arcs, raised E, lowered D and invalid marks" of v are in w, its
+-- valid marks and lengths too, "where a job that the other board has invalid is not compared".
 infix 40 _⊑_
 abbrev pub _⊑_ : View → View → Type 0
 v ⊑ w = AtLeast (shown v) w

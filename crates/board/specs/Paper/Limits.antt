@@ -53,13 +53,16 @@ pub record Limited (v : View) : Type 0 where
   pub arcs : (i k : ℕ) → Arc v i k → Live v i × Live v k × (i ≢ k)
 
 -- The arrays have 64 places each, as their type says.
-pub record Shape (b : Board) : Type 0 where
-  pub lengths : length (b .lengths) ≡ jobLimit
-  pub earliest : length (b .earliest) ≡ jobLimit
-  pub latest : length (b .latest) ≡ jobLimit
-  pub marks : length (b .marks) ≡ jobLimit
-  pub after : length (b .after) ≡ jobLimit
-  pub before : length (b .before) ≡ jobLimit
+abbrev pub Shape : Board → Type 0
+Shape b =
+    record {
+      lengths : length (b .lengths) ≡ jobLimit;
+      earliest : length (b .earliest) ≡ jobLimit;
+      latest : length (b .latest) ≡ jobLimit;
+      marks : length (b .marks) ≡ jobLimit;
+      after : length (b .after) ≡ jobLimit;
+      before : length (b .before) ≡ jobLimit;
+    }
 
 -- A board within its limits.
 pub record Within (b : Board) : Type 0 where

@@ -1,10 +1,10 @@
 -- The tests of live and of valid, as the code makes them, and what they decide.
 use mathlib.Core.Path.{_≡_}
-use mathlib.Core.Bool.{Bool, true, false, not, _&&_}
+use mathlib.Core.Bool.{Bool, true, not, _&&_}
 use Prim.Native.Nat.{ℕ}
 use lib.Dec.{eqb, ltb}
 use borrow.Author.Tests.{ltb-true, lt-ltb, eqb-true, eq-eqb, eqb-false, ne-eqb, not-true}
-use Rattle.minutes.specs.Bools.{refuted, and-parts}
+use Rattle.minutes.specs.Bools.{and-parts}
 use Rattle.board.specs.Paper.View.{View, Live, Valid}
 
 unfoldable pub live : View → ℕ → Bool
@@ -23,9 +23,6 @@ module _ (v : View) (j : ℕ) where
   pub live-show : Live v j → live v j ≡ true
   unfolding live
   live-show (l, m) = rw (lt-ltb j (v .jobs) l, ne-eqb (v .row j .mark) 2 m)
-
-  pub live-no : live v j ≡ false → Live v j → ⊥
-  live-no e h = refuted e (live-show h)
 
   pub valid-yes : valid v j ≡ true → Valid v j
   unfolding valid

@@ -6,7 +6,7 @@ use native.Mathlib.Omega.{arith}
 use Rattle.board.specs.declared.Board.{Board}
 use Rattle.board.specs.Paper.View.{Row, Live, Arc, rowOf, view}
 use Rattle.board.specs.Paper.Facts.{is-arc}
-use Rattle.board.specs.Paper.Limits.{jobLimit, Fits, RowLimits, Shape, Within}
+use Rattle.board.specs.Paper.Limits.{jobLimit, Fits, RowLimits, Within}
 use Rattle.board.specs.Paper.Entries.{Shown, drawn}
 use Rattle.board.specs.Order.Laws.{shown-refl}
 use Rattle.board.specs.Update.Updates.{append}
@@ -26,22 +26,10 @@ one-more n k r ne h =
     }
 
 module _ (b : Board) (r : Row) (within : Within b) (free : b .jobs < jobLimit) where
-  append-shape : Shape (append b r)
-  append-shape =
-      let s = store-shape b (within .shape) (b .jobs) r in
-      record {
-        lengths = s .lengths;
-        earliest = s .earliest;
-        latest = s .latest;
-        marks = s .marks;
-        after = s .after;
-        before = s .before;
-      }
-
   append-within : Fits r → r .mark ≤ 1 → Within (append b r)
   append-within fits m =
       record {
-        shape = append-shape;
+        shape = store-shape b (within .shape) (b .jobs) r;
         limits = record { jobs = free; rows = rows; arcs = arcs };
         twice = within .twice;
         tally = within .tally;

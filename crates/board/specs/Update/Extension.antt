@@ -25,7 +25,7 @@ above-self b h =
       within = h;
       jobs = refl;
       tally = refl;
-      above = ⊑-refl (view b) λ i k a. (h .limits .arcs i k a .0 .0, h .limits .arcs i k a .1 .0);
+      above = ⊑-refl (view b) (h .limits);
     }
 
 -- c is the least board above b that meets P

@@ -66,7 +66,7 @@ abbrev pub concluded : Board → Entry → Option Board → Entered
 concluded b e none = refused Refused.Impossible (counted b)
 concluded b e (some c) = record { answer = acceptance (b .jobs) e; board = c }
 
--- the checks of the table met, then the closure
+-- the first check of the table that is met, or the closure
 abbrev pub judged : Board → Entry → Option Refusal → Entered
 judged b e (some r) = refused r b
 judged b e none = concluded b e (closureWith b e)

@@ -24,7 +24,9 @@ pub record Check : Type 0 where
 abbrev pub line : Refusal → Bool → Check
 line r t = record { refusal = r; met = t }
 
--- 1 full, 4 length, 5 time, 6 window, 7 mark; 2 job, 3 same
+-- The table: 1 full, "an addition to 64 jobs"; 2 job, "a number that no job has"; 3 same, "an arc or pair names one job twice";
+-- 4 length, "below 1 or above 10000"; 5 time, "E or D outside the limits"; 6 window, "E above D"; 7 mark, "addition: not 0 or 1;
+-- mark: not 1 or 2".
 abbrev pub checks : ℕ → Entry → List Check
 checks n (addition l e d m) =
     line Refused.Full (leb jobLimit n)
