@@ -5,11 +5,11 @@ use mathlib.Core.Bool.{Bool, true, false, cond, not, _&&_}
 use mathlib.Core.List.{[], _∷_}
 use Prim.Native.Nat.{ℕ, suc, _+_, _≤_, _<_}
 use native.Mathlib.Omega.{arith}
-use lib.IntN.{ℤ, pos, negsuc, negℤ, _-ℤ_}
+use lib.IntN.{ℤ, pos, negℤ, _-ℤ_}
 use lib.Signed.{leZ, _≤ℤ_, _<ℤ_}
 use borrow.Author.Tests.{not-true}
 use Rattle.minutes.specs.Bools.{is-false, refuted}
-use Rattle.minutes.specs.Linear.{whole, above, below, plus, minus}
+use Rattle.minutes.specs.Linear.{whole, above, below, plus, minus, none-below}
 use Rattle.minutes.specs.Sum.{count, count-mono, count-falls, count-bound}
 use Rattle.board.specs.declared.Board.{Board}
 use Rattle.board.specs.Paper.View.{Row, View, Live, Invalid, Side, early, late, bound, view, rowOf, arcOf}
@@ -59,10 +59,6 @@ module _ (v : View) (i k : ℕ) where
 
   lacking-show : Live v i → Live v k → v .arc i k ≡ false → lacking v i k ≡ true
   lacking-show li lk e = rw (live-show v i li, live-show v k lk, e)
-
-none-below : (z : ℤ) → pos 0 ≤ℤ z → below z ≡ 0
-none-below (pos n) h = refl
-none-below (negsuc n) h = absurd (omega whole)
 
 -- slack s r ≡ 500000 - bound s r
 slack-is : (s : Side) (r : Row) → bound s r ≤ℤ pos 500000 → slack s r + above (bound s r) ≡ 500000 + below (bound s r)

@@ -7,11 +7,11 @@ use mathlib.Core.Option.{Option, none, some}
 use Prim.Native.Nat.{ℕ, _<_, _≤_}
 use native.Mathlib.Omega.{arith}
 use lib.Dec.{eqb}
-use lib.IntN.{ℤ, pos, negsuc}
+use lib.IntN.{ℤ, pos}
 use lib.Signed.{leZ, ltZ}
 use borrow.Author.Tests.{leb-false, not-false}
 use Rattle.minutes.specs.Bools.{clash, refuted, and-parts, and-both}
-use Rattle.minutes.specs.Linear.{whole, below}
+use Rattle.minutes.specs.Linear.{whole, below, none-below}
 use Rattle.board.specs.declared.Refusal.{Refusal}
 use Rattle.board.specs.declared.Refusal.the-variants as Refused
 use Rattle.board.specs.Paper.View.{Side}
@@ -41,15 +41,11 @@ passed c cs e = go (c .met) refl
     go true m = let z : _≡_ {A = Option Refusal} (some (c .refusal)) none = rw (m, gate) at e in absurd (some-none z)
     go false m = (m, rw (m, gate) at e)
 
-not-below : (z : ℤ) → leZ (pos 0) z ≡ true → below z ≡ 0
-not-below (pos a) e = refl
-not-below (negsuc a) e = absurd (refuted refl e)
-
 job : (n : ℕ) (z : ℤ) → isJob n z ≡ true → (number z < n) × (below z ≡ 0)
 job n z t =
     let (a, b) = and-parts (leZ (pos 0) z) (ltZ z (pos n)) t in
-    let none-below = not-below z a in
-    (omega (whole, none-below), none-below)
+    let natural = none-below z (omega whole) in
+    (omega whole, natural)
 
 -- a test that its check did not find broken
 passes : {t : Bool} {P : Type 0} → Decides t P → not t ≡ false → P
@@ -66,7 +62,7 @@ gate-allows n (addition l e d m) g =
     let (te, td) = passes (decides-time e and decides-time d) time in (
       omega (arith, leb-false jobLimit n full),
       record { length = passes (decides-length l) len; earliest = te; latest = td },
-      omega (whole, not-below m (omega whole)),
+      omega (whole, none-below m (omega whole)),
     )
 gate-allows n (arc a b) g =
     let (js, g1) = passed _ _ g in
@@ -79,7 +75,7 @@ gate-allows n (mark j m) g =
     let (js, g1) = passed _ _ g in
     let (mk, g2) = passed _ _ g1 in
     let (low, high) = passes (decides-between (pos 1) (pos 2) m) mk in
-    let none-below = not-below m (omega whole) in
+    let natural = none-below m (omega whole) in
     (job n j (not-false _ js) .0, omega whole, omega whole)
 gate-allows n (cut j e d) g =
     let (js, g1) = passed _ _ g in

@@ -101,4 +101,9 @@ leZ-show-not a b h = is-false (leZ a b) λ e. omega (arith, leZ-true a b e)
 pub ltZ-show-not : (a b : ℤ) → above b + below a ≤ above a + below b → ltZ a b ≡ false
 ltZ-show-not a b h = is-false (ltZ a b) λ e. omega (arith, ltZ-true a b e)
 
+-- a number that is not negative, as a natural
+pub none-below : (z : ℤ) → pos 0 ≤ℤ z → below z ≡ 0
+none-below (pos n) h = refl
+none-below (negsuc n) h = absurd (h .le)
+
 pub ruleset whole = (arith, le-read, le-show, lt-read, lt-show, eq-read, eq-show, leZ-true, ltZ-true, leZ-false, ltZ-false, leZ-show, ltZ-show, leZ-show-not, ltZ-show-not)

@@ -1,14 +1,14 @@
 -- The least closed board over entries is unique: within the limits the order of boards is antisymmetric, and equal boards
 -- are the same value.
-use mathlib.Core.Path.{_≡_, refl, sym, _∙_}
+use mathlib.Core.Path.{_≡_, sym, _∙_}
 use mathlib.Core.Logic.{_≢_}
-use mathlib.Core.Bool.{Bool, true, false}
 use Prim.Native.Nat.{ℕ, _<_, _≤_}
 use native.Mathlib.Decide.{decLt, ℕ-discrete}
 use native.Mathlib.Omega.{arith}
 use lib.IntN.{pos}
 use lib.Seq.{ext-getD}
 use Rattle.words.specs.BitLaws.{bit-ext}
+use Rattle.minutes.specs.Bools.{same-tests}
 use Rattle.minutes.specs.Linear.{whole}
 use Rattle.board.specs.declared.Board.{Board}
 use Rattle.board.specs.Paper.View.{Row, Live, Arc, view, rowOf, arcOf}
@@ -16,12 +16,6 @@ use Rattle.board.specs.Paper.Limits.{Within}
 use Rattle.board.specs.Paper.Equality.{Same, EqualBoards}
 use Rattle.board.specs.Paper.Entries.{Entries, Shown, _⊑_, Least}
 use Rattle.board.specs.Order.Laws.{live-down, arc-up}
-
--- two tests that imply each other agree
-agree : (p q : Bool) → (p ≡ true → q ≡ true) → (q ≡ true → p ≡ true) → p ≡ q
-agree true q f g = sym (f refl)
-agree false true f g = g refl
-agree false false f g = refl
 
 -- two live rows that show each other are equal
 live-rows : (r s : Row) → r .mark ≤ 2 → s .mark ≤ 2 → r .mark ≢ 2 → s .mark ≢ 2 → Shown r s → Shown s r → r ≡ s
@@ -54,7 +48,7 @@ same-boards b c wb wc up down =
     record {
       jobs = jobs;
       rows = λ k. row k (decLt k (b .jobs)) (ℕ-discrete (rowOf b k .mark) 2);
-      arcs = λ i k. agree (arcOf b i k) (arcOf c i k) (arc-across b c wb up down i k) (arc-across c b wc down up i k);
+      arcs = λ i k. same-tests (arcOf b i k) (arcOf c i k) (arc-across b c wb up down i k) (arc-across c b wc down up i k);
     }
   where
     jobs : b .jobs ≡ c .jobs

@@ -3,9 +3,8 @@ use mathlib.Core.Path.{_≡_}
 use mathlib.Core.Logic.{_≢_}
 use mathlib.Core.Bool.{Bool, true}
 use Prim.Native.Nat.{ℕ, _<_}
-use lib.IntN.{ℤ, negℤ}
+use lib.IntN.{ℤ, pos, negℤ}
 use lib.ListN.{getD}
-use lib.IntN.{pos}
 use Rattle.words.specs.Bit.{bit}
 use Rattle.board.specs.declared.Board.{Board}
 
@@ -48,7 +47,7 @@ abbrev pub Beyond : View → Side → ℕ → ℕ → Type 0
 Beyond v early k j = Arc v k j
 Beyond v late k j = Arc v j k
 
--- "The set is one 64-bit word with bit k for job k."
+-- the row of place k; past the arrays it reads 0
 abbrev pub rowOf : Board → ℕ → Row
 rowOf b k =
     record {
@@ -58,11 +57,13 @@ rowOf b k =
       latest = getD (b .latest) k (pos 0);
     }
 
+-- "The set is one 64-bit word with bit k for job k.": job k is in the set after i, and i in the set before k
 abbrev pub arcOf : Board → ℕ → ℕ → Bool
 arcOf b i k = bit (getD (b .after) i 0) k
 
 abbrev pub arcIntoOf : Board → ℕ → ℕ → Bool
 arcIntoOf b k i = bit (getD (b .before) k 0) i
 
+-- what a board shows
 abbrev pub view : Board → View
 view b = record { jobs = b .jobs; row = rowOf b; arc = arcOf b }

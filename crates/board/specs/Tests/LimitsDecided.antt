@@ -1,8 +1,8 @@
 -- The test of the limits decides them: what each part of the test says, and that the parts together say `Within`. The test
 -- looks at the places and pairs of the board, and `Within` speaks of every number.
-use mathlib.Core.Path.{_≡_, refl, sym, _∙_, ap}
+use mathlib.Core.Path.{_≡_, sym, _∙_, ap}
 use mathlib.Core.Logic.{_≢_}
-use mathlib.Core.Bool.{Bool, true, false}
+use mathlib.Core.Bool.{true}
 use mathlib.Core.List.{List}
 use Prim.Native.Nat.{ℕ, _^_, _<_, _≤_}
 use native.Mathlib.Decide.{decLt}
@@ -10,7 +10,7 @@ use native.Mathlib.Omega.{arith}
 use lib.IntN.{ℤ, pos}
 use lib.ListN.{length, getD, List·getD-eq-default}
 use lib.Signed.{leZ, _≤ℤ_}
-use Rattle.minutes.specs.Bools.{is-false, refuted}
+use Rattle.minutes.specs.Bools.{is-false, refuted, same-tests}
 use Rattle.words.specs.Bit.{bit}
 use Rattle.words.specs.BitLaws.{bit-high, bit-zero, bits-bound}
 use Rattle.minutes.specs.Linear.{whole}
@@ -210,8 +210,9 @@ module _ (b : Board) (t : Tested b) where
         shape = t .shape;
         limits = record { jobs = t .jobs; rows = rows; arcs = λ i k e. let (li, lk) = after i k e in t .pair i li k lk .arc e };
         twice = λ i k.
-            agreed (λ e. let (lk, li) = before k i e in t .pair i li k lk .twice)
-            (λ e. let (li, lk) = after i k e in t .pair i li k lk .twice);
+            same-tests (arcIntoOf b k i) (arcOf b i k)
+            (λ e. let (lk, li) = before k i e in sym (t .pair i li k lk .twice) ∙ e)
+            (λ e. let (li, lk) = after i k e in t .pair i li k lk .twice ∙ e);
         tally = t .tally;
       }
     where
@@ -233,12 +234,6 @@ module _ (b : Board) (t : Tested b) where
             invalid = λ l. t .job k l .invalid;
             blank = λ l. blank k l .row;
           }
-
-      -- two tests that agree where one of them holds
-      agreed : {x y : Bool} → (x ≡ true → x ≡ y) → (y ≡ true → x ≡ y) → x ≡ y
-      agreed {x = true} p q = p refl
-      agreed {x = false} {y = true} p q = q refl
-      agreed {x = false} {y = false} p q = refl
 
 within-tested : (b : Board) → Within b → Tested b
 within-tested b w =
