@@ -7,26 +7,30 @@ ghost use Rattle.board.specs.Paper.Refusals.{numberOf};
 // and bit i of `before[k]` is the same arc, kept a second time so that either set is one word.
 pub struct Board {
     pub jobs: usize,
-    pub lengths: [i32; 64],
-    pub earliest: [i32; 64],
-    pub latest: [i32; 64],
-    pub marks: [u8; 64],
-    pub after: [u64; 64],
-    pub before: [u64; 64],
+    pub lengths: [i32; Board::JOBS],
+    pub earliest: [i32; Board::JOBS],
+    pub latest: [i32; Board::JOBS],
+    pub marks: [u8; Board::JOBS],
+    pub after: [u64; Board::JOBS],
+    pub before: [u64; Board::JOBS],
     pub tally: u32,
 }
 
 impl Board {
+    // "A board holds at most 64 jobs"
     pub const JOBS: usize = 64;
 
+    // "Times are whole minutes, -500000 to 500000."
     pub const FIRST_MINUTE: i32 = -500000;
 
     pub const LAST_MINUTE: i32 = 500000;
 
+    // "A job has a length (1 to 10000; 0 once invalid)"
     pub const SHORTEST: i32 = 1;
 
     pub const LONGEST: i32 = 10000;
 
+    // The tally "stops at 1000000".
     pub const TALLY: u32 = 1000000;
 
     // A board without jobs whose tally starts at 0.

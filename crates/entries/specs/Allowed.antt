@@ -70,7 +70,7 @@ gate-allows n (arc a b) g =
     let (ja, jb) = and-parts (isJob n a) (isJob n b) (not-false _ js) in
     let (la, ba) = job n a ja in
     let (lb, bb) = job n b jb in
-    (la, lb, λ e. refuted same (decides-between b b a .show (omega whole, omega whole)))
+    (la, lb, λ e. refuted same (omega whole))
 gate-allows n (mark j m) g =
     let (js, g1) = passed _ _ g in
     let (mk, g2) = passed _ _ g1 in

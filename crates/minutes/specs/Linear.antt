@@ -1,14 +1,14 @@
 -- Whole numbers of either sign, made cheap for `omega`, which reads ℕ alone: z is `above z - below z`.
 -- `omega (whole, plus a b)` proves a linear fact over times; each sum or negation that occurs is listed by its law.
 use mathlib.Core.Path.{_≡_, refl, ap}
-use mathlib.Core.Bool.{Bool, true, false}
+use mathlib.Core.Bool.{Bool, true, false, _&&_}
 use Prim.Native.Nat.{ℕ, zero, suc, _+_, _≤_, _<_}
 use native.Mathlib.Omega.{arith}
 use lib.Dec.{ltb, leb→le, le→leb, ltb→lt, lt→ltb}
 use lib.IntN.{ℤ, pos, negsuc, negℤ, subℕ, _+ℤ_}
 use lib.Signed.{leZ, ltZ, _≤ℤ_, _<ℤ_}
 use borrow.Author.Tests.{ltb-true, ltb-false, leb-false}
-use Rattle.minutes.specs.Bools.{clash, is-true, is-false}
+use Rattle.minutes.specs.Bools.{clash, is-true, is-false, and-parts, and-both}
 
 abbrev pub above : ℤ → ℕ
 above (pos n) = n
@@ -101,9 +101,21 @@ leZ-show-not a b h = is-false (leZ a b) λ e. omega (arith, leZ-true a b e)
 pub ltZ-show-not : (a b : ℤ) → above b + below a ≤ above a + below b → ltZ a b ≡ false
 ltZ-show-not a b h = is-false (ltZ a b) λ e. omega (arith, ltZ-true a b e)
 
+-- are two numbers equal?
+unfoldable pub eqZ : ℤ → ℤ → Bool
+eqZ a b = leZ a b && leZ b a
+
+pub eqZ-true : (a b : ℤ) → eqZ a b ≡ true → above a + below b ≡ above b + below a
+unfolding eqZ
+eqZ-true a b e = let (l, g) = and-parts (leZ a b) (leZ b a) e in omega (arith, leZ-true a b l, leZ-true b a g)
+
+pub eqZ-show : (a b : ℤ) → above a + below b ≡ above b + below a → eqZ a b ≡ true
+unfolding eqZ
+eqZ-show a b h = and-both (leZ a b) (leZ b a) (leZ-show a b (omega arith)) (leZ-show b a (omega arith))
+
 -- a number that is not negative, as a natural
 pub none-below : (z : ℤ) → pos 0 ≤ℤ z → below z ≡ 0
 none-below (pos n) h = refl
 none-below (negsuc n) h = absurd (h .le)
 
-pub ruleset whole = (arith, le-read, le-show, lt-read, lt-show, eq-read, eq-show, leZ-true, ltZ-true, leZ-false, ltZ-false, leZ-show, ltZ-show, leZ-show-not, ltZ-show-not)
+pub ruleset whole = (arith, le-read, le-show, lt-read, lt-show, eq-read, eq-show, leZ-true, ltZ-true, leZ-false, ltZ-false, leZ-show, ltZ-show, leZ-show-not, ltZ-show-not, eqZ-true, eqZ-show)

@@ -7,6 +7,7 @@ use Prim.Native.Nat.{ℕ}
 use lib.Dec.{eqb}
 use lib.IntN.{pos}
 use Rattle.words.specs.Bit.{bit, with, without, union, difference, singleton}
+use Rattle.minutes.specs.Linear.{eqZ}
 use Rattle.minutes.specs.Sum.{sum}
 use Rattle.board.specs.declared.Board.{Board}
 use Rattle.board.specs.Paper.Limits.{emptyBoard}
@@ -65,7 +66,7 @@ abbrev pub true-from : Board → List Line → Bool
 true-from b [] = true
 true-from b (enters e ∷ ls) = let o = enter b e in gives (refusal (o .answer)) none && true-from (o .board) ls
 true-from b (refuses n e ∷ ls) = let o = enter b e in gives (refusal (o .answer)) (some n) && true-from (o .board) ls
-true-from b (earliestIs j e ∷ ls) = between (pos e) (pos e) (rowOf b j .earliest) && true-from b ls
+true-from b (earliestIs j e ∷ ls) = eqZ (rowOf b j .earliest) (pos e) && true-from b ls
 true-from b (markIs j m ∷ ls) = eqb (rowOf b j .mark) m && true-from b ls
 true-from b (pairIs x y p ∷ ls) = gives (arcsOf (pair b (pos x) (pos y))) (some p) && true-from b ls
 
@@ -124,5 +125,5 @@ table = M1 ∷ M2 ∷ M3 ∷ M4 ∷ M5 ∷ M6 ∷ M7 ∷ M8 ∷ M9 ∷ M10 ∷ M
 
 -- every line of every example is true
 pub examples-hold : all-true table ≡ true
-unfolding bit with without union difference singleton sum all implies between isTime isLength isZero fits isZeroRow full shape holdsJob holdsNothing joinable agrees withinLimits live valid exclude tighten update _andThen_ guard _orElse_ first any beyond cramped tooLate joined pushers pushed push next find close closure settled passes gate appendAll updateAll raw closureWith enter pair
+unfolding eqZ bit with without union difference singleton sum all implies between isTime isLength isZero fits isZeroRow full shape holdsJob holdsNothing joinable agrees withinLimits live valid exclude tighten update _andThen_ guard _orElse_ first any beyond cramped tooLate joined pushers pushed push next find close closure settled passes gate appendAll updateAll raw closureWith enter pair
 examples-hold = refl

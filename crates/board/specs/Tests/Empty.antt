@@ -4,6 +4,7 @@ use mathlib.Core.Path.{_≡_, refl}
 use Prim.Native.Nat.{ℕ, _≤_}
 use native.Mathlib.Omega.{arith}
 use borrow.Author.Tests.{le-leb}
+use Rattle.minutes.specs.Linear.{eqZ}
 use Rattle.board.specs.declared.Board.{Board}
 use Rattle.board.specs.Paper.View.{View, view}
 use Rattle.board.specs.Paper.Facts.{Fact, Holds}
@@ -11,11 +12,11 @@ use Rattle.board.specs.Paper.Limits.{tallyLimit, Within, emptyBoard}
 use Rattle.board.specs.Paper.Entries.{Drawn, drawn, _⊑_}
 use Rattle.board.specs.Order.Unique.{same-boards, equal-boards}
 use Rattle.board.specs.Update.Extension.{above-self}
-use Rattle.board.specs.Tests.Limits.{all, implies, between, isZero, isZeroRow, full, shape, holdsNothing, withinLimits}
+use Rattle.board.specs.Tests.Limits.{all, implies, isZero, isZeroRow, full, shape, holdsNothing, withinLimits}
 use Rattle.board.specs.Tests.LimitsDecided.{limits-yes}
 
 pub within-empty : (t : ℕ) → t ≤ tallyLimit → Within (emptyBoard t)
-unfolding all implies between isZero isZeroRow full shape holdsNothing withinLimits
+unfolding all implies eqZ isZero isZeroRow full shape holdsNothing withinLimits
 within-empty t h = limits-yes (emptyBoard t) (rw (le-leb t tallyLimit h))
 
 -- a board without jobs shows nothing, so that it is below every view

@@ -7,6 +7,7 @@ use lib.Dec.{eqb, leb, ltb}
 use lib.IntN.{ℤ, pos, negsuc}
 use lib.ListN.{length, getD}
 use lib.Signed.{leZ}
+use Rattle.minutes.specs.Linear.{eqZ}
 use Rattle.board.specs.declared.Board.{Board}
 use Rattle.board.specs.Paper.View.{Row, view, rowOf, arcOf, arcIntoOf}
 use Rattle.board.specs.Paper.Limits.{jobLimit, tallyLimit}
@@ -33,7 +34,7 @@ unfoldable pub isLength : ℤ → Bool
 isLength z = between (pos 1) (pos 10000) z
 
 unfoldable pub isZero : ℤ → Bool
-isZero z = between (pos 0) (pos 0) z
+isZero z = eqZ z (pos 0)
 
 -- a row of a live job
 unfoldable pub fits : Row → Bool

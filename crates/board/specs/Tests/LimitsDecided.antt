@@ -43,7 +43,7 @@ decides-length z = restated (decides-between _ _ z) (λ h. omega whole) (λ h. o
 
 decides-zero : (z : ℤ) → Decides (isZero z) (z ≡ pos 0)
 unfolding isZero
-decides-zero z = restated (decides-between _ _ z) (λ h. omega whole) (λ h. omega whole)
+decides-zero z = record { yes = λ e. omega whole; show = λ h. omega whole }
 
 decides-fits : (r : Row) → Decides (fits r) (Fits r)
 unfolding fits

@@ -6,6 +6,7 @@ use Prim.Native.Nat.{ℕ}
 use lib.Dec.{leb}
 use lib.IntN.{ℤ, pos}
 use lib.Signed.{leZ, ltZ}
+use Rattle.minutes.specs.Linear.{eqZ}
 use Rattle.board.specs.declared.Refusal.{Refusal}
 use Rattle.board.specs.declared.Refusal.the-variants as Refused
 use Rattle.board.specs.Paper.Limits.{jobLimit}
@@ -24,30 +25,33 @@ pub record Check : Type 0 where
 abbrev pub line : Refusal → Bool → Check
 line r t = record { refusal = r; met = t }
 
--- The table: 1 full, "an addition to 64 jobs"; 2 job, "a number that no job has"; 3 same, "an arc or pair names one job twice";
--- 4 length, "below 1 or above 10000"; 5 time, "E or D outside the limits"; 6 window, "E above D"; 7 mark, "addition: not 0 or 1;
--- mark: not 1 or 2".
+-- 2 job, "a number that no job has"
+abbrev pub jobCheck : ℕ → ℤ → Check
+jobCheck n j = line Refused.Job (not (isJob n j))
+
+-- 2 job, and 3 same, "an arc or pair names one job twice"
+abbrev pub pairChecks : ℕ → ℤ → ℤ → List Check
+pairChecks n a b = line Refused.Job (not (isJob n a && isJob n b)) ∷ line Refused.Same (eqZ a b) ∷ []
+
+-- 5 time, "E or D outside the limits", and 6 window, "E above D"
+abbrev pub timeCheck : ℤ → ℤ → Check
+timeCheck e d = line Refused.Time (not (isTime e && isTime d))
+
+abbrev pub windowCheck : ℤ → ℤ → Check
+windowCheck e d = line Refused.Window (ltZ d e)
+
+-- 1 full, "an addition to 64 jobs"; 4 length, "below 1 or above 10000"; 7 mark, "addition: not 0 or 1; mark: not 1 or 2"
 abbrev pub checks : ℕ → Entry → List Check
 checks n (addition l e d m) =
     line Refused.Full (leb jobLimit n)
     ∷ line Refused.Length (not (isLength l))
-    ∷ line Refused.Time (not (isTime e && isTime d))
-    ∷ line Refused.Window (ltZ d e)
+    ∷ timeCheck e d
+    ∷ windowCheck e d
     ∷ line Refused.Mark (not (between (pos 0) (pos 1) m))
     ∷ []
-checks n (arc a b) =
-    line Refused.Job (not (isJob n a && isJob n b))
-    ∷ line Refused.Same (between b b a)
-    ∷ []
-checks n (mark j m) =
-    line Refused.Job (not (isJob n j))
-    ∷ line Refused.Mark (not (between (pos 1) (pos 2) m))
-    ∷ []
-checks n (cut j e d) =
-    line Refused.Job (not (isJob n j))
-    ∷ line Refused.Time (not (isTime e && isTime d))
-    ∷ line Refused.Window (ltZ d e)
-    ∷ []
+checks n (arc a b) = pairChecks n a b
+checks n (mark j m) = jobCheck n j ∷ line Refused.Mark (not (between (pos 1) (pos 2) m)) ∷ []
+checks n (cut j e d) = jobCheck n j ∷ timeCheck e d ∷ windowCheck e d ∷ []
 
 -- the first refusal that the call meets
 unfoldable pub gate : List Check → Option Refusal

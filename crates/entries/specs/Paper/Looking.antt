@@ -1,5 +1,5 @@
 -- "Looking at the board": the answers of row and pair, for every board handed in and all numbers.
-use mathlib.Core.Bool.{true, false, cond, not, _&&_}
+use mathlib.Core.Bool.{true, false, cond, _&&_}
 use mathlib.Core.List.{[], _∷_}
 use mathlib.Core.Option.{none, some}
 use Prim.Native.Nat.{ℕ, _+_}
@@ -9,14 +9,13 @@ use Rattle.board.specs.declared.Board.{Board}
 use Rattle.board.specs.declared.Refusal.the-variants as Refused
 use Rattle.board.specs.Paper.View.{rowOf, arcOf, view}
 use Rattle.board.specs.Tests.Live.{live}
-use Rattle.board.specs.Tests.Limits.{between}
 use Rattle.closure.specs.Check.{passes}
 use Rattle.entries.specs.declared.RowAnswer.{RowAnswer}
 use Rattle.entries.specs.declared.RowAnswer.the-variants as Rows
 use Rattle.entries.specs.declared.PairAnswer.{PairAnswer}
 use Rattle.entries.specs.declared.PairAnswer.the-variants as Pairs
 use Rattle.entries.specs.Paper.Entry.{number}
-use Rattle.entries.specs.Paper.Gate.{line, isJob, gate}
+use Rattle.entries.specs.Paper.Gate.{jobCheck, pairChecks, gate}
 
 -- "Row of a job: mark, E, D, the set before it and the set after it."
 abbrev pub rowShown : Board → ℕ → RowAnswer
@@ -28,7 +27,7 @@ unfoldable pub row : Board → ℤ → RowAnswer
 row b j =
     elim (passes b) [
       | false ↦ Rows.Refused Refused.Board
-      | true ↦ elim (gate (line Refused.Job (not (isJob (b .jobs) j)) ∷ [])) [ some r ↦ Rows.Refused r | none ↦ rowShown b (number j) ]
+      | true ↦ elim (gate (jobCheck (b .jobs) j ∷ [])) [ some r ↦ Rows.Refused r | none ↦ rowShown b (number j) ]
     ]
 
 -- "0 no arc, 1 A to B, 2 B to A, 3 both"
@@ -48,5 +47,5 @@ unfoldable pub pair : Board → ℤ → ℤ → PairAnswer
 pair b x y =
     elim (passes b) [
       | false ↦ Pairs.Refused Refused.Board
-      | true ↦ elim (gate (line Refused.Job (not (isJob (b .jobs) x && isJob (b .jobs) y)) ∷ line Refused.Same (between y y x) ∷ [])) [ some r ↦ Pairs.Refused r | none ↦ pairShown b (number x) (number y) ]
+      | true ↦ elim (gate (pairChecks (b .jobs) x y)) [ some r ↦ Pairs.Refused r | none ↦ pairShown b (number x) (number y) ]
     ]
