@@ -1,8 +1,8 @@
 -- What an entry that meets no refusal of the table says, in the paper's words.
-use mathlib.Core.Path.{_≡_, refl, sym, subst}
-use mathlib.Core.Logic.{_≢_, ⊎-elim}
+use mathlib.Core.Path.{_≡_, refl, subst⁻¹}
+use mathlib.Core.Logic.{⊎-elim}
 use mathlib.Core.Bool.{Bool, true, false, not, cond, _&&_}
-use mathlib.Core.List.{List, [], _∷_, List·Memᴰ, List·Memᴰ·not-nil, List·Memᴰ·cases-cons, List·Memᴰ·eq-of-singleton}
+use mathlib.Core.List.{List, _∷_, List·Memᴰ, List·Memᴰ·cases-cons, List·Memᴰ·eq-of-singleton}
 use mathlib.Core.Option.{Option, none, some}
 use Prim.Native.Nat.{ℕ, _<_, _≤_}
 use native.Mathlib.Omega.{arith}
@@ -16,18 +16,20 @@ use Rattle.board.specs.declared.Refusal.{Refusal}
 use Rattle.board.specs.declared.Refusal.the-variants as Refused
 use Rattle.board.specs.Paper.View.{Side}
 use Rattle.board.specs.Paper.Facts.{Fact, is-bound, is-valid, is-invalid, Known}
-use Rattle.board.specs.Paper.Limits.{IsTime, Fits, jobLimit}
+use Rattle.board.specs.Paper.Limits.{Fits, jobLimit}
 use Rattle.board.specs.Tests.Decides.{Decides, _and_}
 use Rattle.board.specs.Tests.LimitsDecided.{decides-between, decides-time, decides-length}
-use Rattle.entries.specs.Paper.Entry.{Entry, addition, arc, mark, cut, number, addedRow, added, stated}
-use Rattle.entries.specs.Paper.Gate.{Check, line, isJob, checks, gate}
+use Rattle.entries.specs.Paper.Entry.{Statement, arc, mark, cut, Entry, addition, other, number, addedRow, stated}
+use Rattle.entries.specs.Paper.Gate.{Check, line, isJob, jobCheck, statementChecks, checks, gate}
+
+-- facts about jobs of a board of n jobs, one and all
+abbrev pub KnownAll : ℕ → List Fact → Type 0
+KnownAll n fs = (f : Fact) → List·Memᴰ f fs → Known n f
 
 -- the entry is one that a board of n jobs can take
 abbrev pub Allowed : ℕ → Entry → Type 0
 Allowed n (addition l e d m) = (n < jobLimit) × Fits (addedRow l e d m) × (number m ≤ 1)
-Allowed n (arc a b) = (number a < n) × (number b < n) × (number a ≢ number b)
-Allowed n (mark j m) = (number j < n) × (1 ≤ number m) × (number m ≤ 2)
-Allowed n (cut j e d) = (number j < n) × IsTime e × IsTime d
+Allowed n (other s) = KnownAll n (stated s)
 
 some-none : {A : Type 0} {a : A} → _≡_ {A = Option A} (some a) none → ⊥
 some-none {a} e = clash (cc)
@@ -51,6 +53,28 @@ job n z t =
 passes : {t : Bool} {P : Type 0} → Decides t P → not t ≡ false → P
 passes {t} d e = d .yes (not-false t e)
 
+-- what passes check 2 is about jobs of the board
+known-job : (n : ℕ) (j : ℤ) (cs : List Check) → gate (jobCheck n j ∷ cs) ≡ none → number j < n
+known-job n j cs g = job n j (not-false _ (passed (jobCheck n j) cs g .0)) .0
+
+known : (n : ℕ) (s : Statement) → gate (statementChecks n s) ≡ none → KnownAll n (stated s)
+known n (arc a b) g f i =
+    let (js, g1) = passed _ _ g in
+    let (same, g2) = passed _ _ g1 in
+    let (ja, jb) = and-parts (isJob n a) (isJob n b) (not-false _ js) in
+    let (la, ba) = job n a ja in
+    let (lb, bb) = job n b jb in
+    subst⁻¹ (Known n) (List·Memᴰ·eq-of-singleton i) (la, lb, λ e. refuted same (omega whole))
+known n (mark j m) g f i = subst⁻¹ (Known n) (List·Memᴰ·eq-of-singleton i) (either (eqb (number m) 1))
+  where
+    either : (t : Bool) → Known n (cond t (is-valid (number j)) (is-invalid (number j)))
+    either true = known-job n j _ g
+    either false = known-job n j _ g
+known n (cut j e d) g f i = ⊎-elim bound (λ i′. bound (List·Memᴰ·eq-of-singleton i′)) (List·Memᴰ·cases-cons i)
+  where
+    bound : {s : Side} {z : ℤ} → f ≡ is-bound s (number j) z → Known n f
+    bound e = subst⁻¹ (Known n) e (known-job n j _ g)
+
 pub gate-allows : (n : ℕ) (e : Entry) → gate (checks n e) ≡ none → Allowed n e
 gate-allows n (addition l e d m) g =
     let (full, g1) = passed _ _ g in
@@ -64,38 +88,7 @@ gate-allows n (addition l e d m) g =
       record { length = passes (decides-length l) len; earliest = te; latest = td },
       omega (whole, none-below m (omega whole)),
     )
-gate-allows n (arc a b) g =
-    let (js, g1) = passed _ _ g in
-    let (same, g2) = passed _ _ g1 in
-    let (ja, jb) = and-parts (isJob n a) (isJob n b) (not-false _ js) in
-    let (la, ba) = job n a ja in
-    let (lb, bb) = job n b jb in
-    (la, lb, λ e. refuted same (omega whole))
-gate-allows n (mark j m) g =
-    let (js, g1) = passed _ _ g in
-    let (mk, g2) = passed _ _ g1 in
-    let (low, high) = passes (decides-between (pos 1) (pos 2) m) mk in
-    let natural = none-below m (omega whole) in
-    (job n j (not-false _ js) .0, omega whole, omega whole)
-gate-allows n (cut j e d) g =
-    let (js, g1) = passed _ _ g in
-    let (time, g2) = passed _ _ g1 in
-    let (te, td) = passes (decides-time e and decides-time d) time in
-    (job n j (not-false _ js) .0, te, td)
-
--- the facts that such an entry states are about jobs of the board
-pub allowed-known : (n : ℕ) (e : Entry) → Allowed n e → (f : Fact) → List·Memᴰ f (stated e) → Known n f
-allowed-known n (addition l e d m) ok f i = absurd (List·Memᴰ·not-nil i)
-allowed-known n (arc a b) ok f i = subst (Known n) (sym (List·Memᴰ·eq-of-singleton i)) ok
-allowed-known n (mark j m) ok f i = subst (Known n) (sym (List·Memᴰ·eq-of-singleton i)) (either (eqb (number m) 1))
-  where
-    either : (t : Bool) → Known n (cond t (is-valid (number j)) (is-invalid (number j)))
-    either true = ok .0
-    either false = ok .0
-allowed-known n (cut j e d) ok f i = ⊎-elim bound (λ i′. bound (List·Memᴰ·eq-of-singleton i′)) (List·Memᴰ·cases-cons i)
-  where
-    bound : {s : Side} {z : ℤ} → f ≡ is-bound s (number j) z → Known n f
-    bound e = subst (Known n) (sym e) (ok .0)
+gate-allows n (other s) g = known n s g
 
 -- ---- on a board of more jobs
 
@@ -112,14 +105,13 @@ weaker t u cs h g =
     let (m, rest) = passed (line Refused.Job (not t)) cs g in
     rw (h (not-false t m)) rest
 
--- an arc, mark or cut that meets no refusal of the table meets none on a board of more jobs either
-pub gate-more : (n m : ℕ) → n ≤ m → (e : Entry) → added e ≡ [] → gate (checks n e) ≡ none → gate (checks m e) ≡ none
-gate-more n m le (addition l x d k) none-added g = clash (cc)
-gate-more n m le (arc a b) none-added g = weaker (isJob n a && isJob n b) (isJob m a && isJob m b) _ both g
+-- a statement that meets no refusal of the table meets none on a board of more jobs either
+pub gate-more : (n m : ℕ) → n ≤ m → (s : Statement) → gate (statementChecks n s) ≡ none → gate (statementChecks m s) ≡ none
+gate-more n m le (arc a b) g = weaker (isJob n a && isJob n b) (isJob m a && isJob m b) _ both g
   where
     both : (isJob n a && isJob n b) ≡ true → (isJob m a && isJob m b) ≡ true
     both t =
         let (ja, jb) = and-parts (isJob n a) (isJob n b) t in
         and-both (isJob m a) (isJob m b) (more-jobs n m le a ja) (more-jobs n m le b jb)
-gate-more n m le (mark j k) none-added g = weaker (isJob n j) (isJob m j) _ (more-jobs n m le j) g
-gate-more n m le (cut j x d) none-added g = weaker (isJob n j) (isJob m j) _ (more-jobs n m le j) g
+gate-more n m le (mark j k) g = weaker (isJob n j) (isJob m j) _ (more-jobs n m le j) g
+gate-more n m le (cut j x d) g = weaker (isJob n j) (isJob m j) _ (more-jobs n m le j) g

@@ -14,8 +14,8 @@ use Rattle.board.specs.declared.Refusal.the-variants as Refused
 use Rattle.board.specs.Paper.Refusals.{numberOf}
 use Rattle.entries.specs.declared.Answer.the-variants as Answers
 use Rattle.entries.specs.declared.Entered.{Entered}
-use Rattle.entries.specs.Paper.Entry.{Entry, addition, arc, mark, cut}
-use Rattle.entries.specs.Paper.Gate.{Check, checks, gate}
+use Rattle.entries.specs.Paper.Entry.{Statement, arc, mark, cut, Entry, addition, other}
+use Rattle.entries.specs.Paper.Gate.{Check, statementChecks, checks, gate}
 use Rattle.entries.specs.Paper.Enter.{acceptance}
 use Rattle.entries.specs.Paper.Exact.{Ends, by-table, impossible, accepted}
 
@@ -40,9 +40,12 @@ gate-low (c ∷ cs) r l g = go (c .met) refl (and-parts (ltb (numberOf (c .refus
 low-checks : (n : ℕ) (e : Entry) → low (checks n e) ≡ true
 unfolding low
 low-checks n (addition l e d m) = refl
-low-checks n (arc a b) = refl
-low-checks n (mark j m) = refl
-low-checks n (cut j e d) = refl
+low-checks n (other s) = low-statement s
+  where
+    low-statement : (s : Statement) → low (statementChecks n s) ≡ true
+    low-statement (arc a b) = refl
+    low-statement (mark j m) = refl
+    low-statement (cut j e d) = refl
 
 pub by-table-low : (n : ℕ) (e : Entry) (r : Refusal) → gate (checks n e) ≡ some r → numberOf r < 8
 by-table-low n e r g = gate-low (checks n e) r (low-checks n e) g
@@ -54,10 +57,8 @@ not-by-table n e r g q =
     omega arith
 
 pub not-refused : (n : ℕ) (e : Entry) (r : Refusal) → acceptance n e ≡ Answers.Refused r → ⊥
-not-refused n (addition l x d m) r q = clash (cc)
-not-refused n (arc a b) r q = clash (cc)
-not-refused n (mark j m) r q = clash (cc)
-not-refused n (cut j x d) r q = clash (cc)
+not-refused n (addition l e d m) r q = clash (cc)
+not-refused n (other s) r q = clash (cc)
 
 -- a call that was answered 8 met none of the checks 1 to 7, and the closure with its entry is a contradiction
 pub answered-impossible : (b : Board) (e : Entry) (C : Type 0) (B : Board → Type 0) (x : Entered) → Ends b e C B x

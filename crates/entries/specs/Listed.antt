@@ -2,19 +2,21 @@
 use mathlib.Core.Path.{_≡_, refl, sym, _∙_, ap, subst}
 use mathlib.Core.Logic.{_⊎_, inl, inr, ⊎-elim}
 use mathlib.Core.Bool.{cond}
-use mathlib.Core.List.{List, [], _∷_, _++_, append-assoc, append-nil, List·Memᴰ, List·Memᴰ·head, List·Memᴰ·append-cases, Memᴰ·append-left, Memᴰ·append-right, List·Memᴰ·eq-of-singleton, List·Memᴰ·not-nil}
+use mathlib.Core.List.{List, [], _∷_, _++_, List·Memᴰ, List·Memᴰ·head, List·Memᴰ·append-cases, Memᴰ·append-left, Memᴰ·append-right, List·Memᴰ·eq-of-singleton}
 use Prim.Native.Nat.{ℕ, suc, _<_}
 use native.Mathlib.Omega.{arith}
 use native.Mathlib.Decide.{ℕ-discrete}
 use lib.Dec.{eqb}
+use lib.IntN.{ℤ}
 use lib.ListN.{length, getD, length-append, List·getD-append}
 use lib.Seq.{getD-append-seam}
 use borrow.Author.Tests.{eq-eqb, ne-eqb}
+use Rattle.minutes.specs.Bools.{clash}
 use Rattle.board.specs.Paper.View.{Row, View}
 use Rattle.board.specs.Paper.Facts.{Fact}
 use Rattle.board.specs.Paper.Entries.{Entries, Shown, AtLeast}
 use Rattle.board.specs.Paper.Limits.{zeroRow}
-use Rattle.entries.specs.Paper.Entry.{Entry, addition, arc, mark, cut, addedRow, added, stated, additions, Stated, entries, SameEntries, stating, withEntry}
+use Rattle.entries.specs.Paper.Entry.{Statement, Entry, addition, other, addedRow, stated, additions, Stated, entries, SameEntries, withEntry}
 
 -- entries that agree in jobs, rows and facts ask the same of a view
 pub record Agree (es es′ : Entries) : Type 0 where
@@ -37,23 +39,31 @@ agreed es es′ w a h =
       facts = λ f i. h .facts f (a .from f i);
     }
 
-additions-snoc : (l : List Entry) (e : Entry) → additions (l ++ e ∷ []) ≡ additions l ++ added e
+-- the rows that one more entry adds
+added-last : (l : List Entry) (x y d m : ℤ) → additions (l ++ addition x y d m ∷ []) ≡ additions l ++ addedRow x y d m ∷ []
 unfolding additions
-additions-snoc [] e = append-nil (added e)
-additions-snoc (x ∷ l) e = ap (λ r. added x ++ r) (additions-snoc l e) ∙ sym (append-assoc (added x) (additions l) (added e))
+added-last [] x y d m = refl
+added-last (addition a b c e ∷ l) x y d m = ap (λ rs. addedRow a b c e ∷ rs) (added-last l x y d m)
+added-last (other s ∷ l) x y d m = added-last l x y d m
 
-stated-snoc : (l : List Entry) (e : Entry) (f : Fact) → Stated (l ++ e ∷ []) f → Stated l f ⊎ List·Memᴰ f (stated e)
-stated-snoc l e f s =
+added-none : (l : List Entry) (s : Statement) → additions (l ++ other s ∷ []) ≡ additions l
+unfolding additions
+added-none [] s = refl
+added-none (addition a b c e ∷ l) s = ap (λ rs. addedRow a b c e ∷ rs) (added-none l s)
+added-none (other r ∷ l) s = added-none l s
+
+-- what one of the entries states, before one more and after
+stated-still : (l : List Entry) (e : Entry) (f : Fact) → Stated l f → Stated (l ++ e ∷ []) f
+stated-still l e f s =
+    record { statement = s .statement; made = Memᴰ·append-left (e ∷ []) (s .made); states = s .states }
+
+stated-cases : (l : List Entry) (e : Entry) (f : Fact) → Stated (l ++ e ∷ []) f
+    → Stated l f ⊎ ((s : Statement) × (other s ≡ e) × List·Memᴰ f (stated s))
+stated-cases l e f s =
     ⊎-elim
-    (λ m. inl (record { entry = s .entry; made = m; states = s .states }))
-    (λ m. inr (subst (λ x. List·Memᴰ f (stated x)) (List·Memᴰ·eq-of-singleton m) (s .states)))
+    (λ m. inl (record { statement = s .statement; made = m; states = s .states }))
+    (λ m. inr (s .statement, List·Memᴰ·eq-of-singleton m, s .states))
     (List·Memᴰ·append-cases l (s .made))
-
-stated-there : (l : List Entry) (e : Entry) (f : Fact) → Stated l f ⊎ List·Memᴰ f (stated e) → Stated (l ++ e ∷ []) f
-stated-there l e f =
-    ⊎-elim
-    (λ s. record { entry = s .entry; made = Memᴰ·append-left (e ∷ []) (s .made); states = s .states })
-    (λ m. record { entry = e; made = Memᴰ·append-right l (List·Memᴰ·head refl); states = m })
 
 -- the last of the rows, and those before it
 row-snoc : (rs : List Row) (r : Row) (k : ℕ) → k < suc (length rs) → getD (rs ++ r ∷ []) k (zeroRow 0) ≡ cond (eqb k (length rs)) r (getD rs k (zeroRow 0))
@@ -63,38 +73,26 @@ row-snoc rs r k b = go (ℕ-discrete k (length rs))
     go (yes e) = rw (eq-eqb k (length rs) e) (rw e (getD-append-seam rs r [] (zeroRow 0)))
     go (no n) = rw (ne-eqb k (length rs) n) (List·getD-append rs (r ∷ []) (zeroRow 0) k (omega (arith, n)))
 
--- the list with one more entry that adds no job
-agree-stating : (l : List Entry) (e : Entry) → added e ≡ [] → Agree (entries (l ++ e ∷ [])) (stating (entries l) (stated e))
-agree-stating l e none =
-    let is : additions (l ++ e ∷ []) ≡ additions l = additions-snoc l e ∙ ap (λ r. additions l ++ r) none ∙ append-nil (additions l) in
-    record {
-      jobs = ap length is;
-      rows = λ k b. ap (λ rs. getD rs k (zeroRow 0)) is;
-      to = stated-snoc l e;
-      from = stated-there l e;
-    }
-
 pub agree-snoc : (l : List Entry) (e : Entry) → Agree (entries (l ++ e ∷ [])) (withEntry (entries l) e)
 agree-snoc l (addition x y d m) =
-    let is = additions-snoc l (addition x y d m) in
+    let is = added-last l x y d m in
     let count : length (additions l ++ addedRow x y d m ∷ []) ≡ suc (length (additions l)) = omega (arith, length-append (additions l) (addedRow x y d m ∷ [])) in
     record {
       jobs = ap length is ∙ count;
       rows = λ k b.
           ap (λ rs. getD rs k (zeroRow 0)) is ∙ row-snoc (additions l) (addedRow x y d m) k (omega (arith, ap length is, count));
-      to = λ f s. ⊎-elim (λ h. h) (λ i. absurd (List·Memᴰ·not-nil i)) (stated-snoc l (addition x y d m) f s);
-      from = λ f s. stated-there l (addition x y d m) f (inl s);
+      to = λ f s. ⊎-elim (λ h. h) (λ (t, q, _). clash (cc)) (stated-cases l (addition x y d m) f s);
+      from = λ f s. stated-still l (addition x y d m) f s;
     }
-agree-snoc l (arc a b) = agree-stating l (arc a b) refl
-agree-snoc l (mark j m) = agree-stating l (mark j m) refl
-agree-snoc l (cut j x d) = agree-stating l (cut j x d) refl
-
--- an entry that states a fact adds no job
-no-job : (e : Entry) (f : Fact) → List·Memᴰ f (stated e) → added e ≡ []
-no-job (addition l x d m) f i = absurd (List·Memᴰ·not-nil i)
-no-job (arc a b) f i = refl
-no-job (mark j m) f i = refl
-no-job (cut j x d) f i = refl
+agree-snoc l (other s) =
+    let is = added-none l s in
+    record {
+      jobs = ap length is;
+      rows = λ k b. ap (λ rs. getD rs k (zeroRow 0)) is;
+      to = λ f t. ⊎-elim inl (λ (r, q, i). inr (let same : r ≡ s = cc in subst (λ x. List·Memᴰ f (stated x)) same i)) (stated-cases l (other s) f t);
+      from = λ f. ⊎-elim (stated-still l (other s) f)
+          λ i. record { statement = s; made = Memᴰ·append-right l (List·Memᴰ·head refl); states = i };
+    }
 
 -- the same jobs in the same order and the same set of other entries ask the same of a board
 pub same-agree : (l l′ : List Entry) → SameEntries l l′ → Agree (entries l) (entries l′)
@@ -102,9 +100,6 @@ same-agree l l′ s =
     record {
       jobs = ap length (s .jobs);
       rows = λ k i. ap (λ rs. getD rs k (zeroRow 0)) (s .jobs);
-      to = λ f x. moved f x (λ e o. s .others e o .0);
-      from = λ f x. moved f x (λ e o. s .others e o .1);
+      to = λ f x. record { statement = x .statement; made = s .others (x .statement) .0 (x .made); states = x .states };
+      from = λ f x. record { statement = x .statement; made = s .others (x .statement) .1 (x .made); states = x .states };
     }
-  where
-    moved : {l l′ : List Entry} (f : Fact) → Stated l f → ((e : Entry) → added e ≡ [] → List·Memᴰ e l → List·Memᴰ e l′) → Stated l′ f
-    moved f x to = record { entry = x .entry; made = to (x .entry) (no-job (x .entry) f (x .states)) (x .made); states = x .states }

@@ -6,7 +6,7 @@ use Prim.Native.Nat.{ℕ}
 use Rattle.board.specs.declared.Board.{Board}
 use Rattle.board.specs.Paper.Entries.{Admissible}
 use Rattle.entries.specs.declared.Entered.{Entered}
-use Rattle.entries.specs.Paper.Entry.{Entry, addition, arc, mark, cut, entries, withEntry}
+use Rattle.entries.specs.Paper.Entry.{Entry, addition, other, entries, withEntry}
 use Rattle.entries.specs.Paper.Gate.{checks, gate}
 use Rattle.entries.specs.Listed.{agree-snoc, agree-sym}
 use Rattle.entries.specs.Allowed.{Allowed, gate-allows}
@@ -24,10 +24,8 @@ pub record Held (l : List Entry) (b : Board) : Type 0 where
 
 -- an accepted entry is kept
 accepted-kept : (n : ℕ) (e : Entry) → kept (acceptance n e) e ≡ e ∷ []
-accepted-kept n (addition l x d m) = refl
-accepted-kept n (arc a b) = refl
-accepted-kept n (mark j m) = refl
-accepted-kept n (cut j x d) = refl
+accepted-kept n (addition l e d m) = refl
+accepted-kept n (other s) = refl
 
 module _ (l : List Entry) (b : Board) (h : Held l b) where
   -- an entry that meets none of the checks may follow the others

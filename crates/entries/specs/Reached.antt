@@ -2,7 +2,7 @@
 -- leads to such a board again, and an entry refused as impossible leaves none that shows it.
 use mathlib.Core.Path.{_≡_, _∙_, subst, subst⁻¹}
 use mathlib.Core.Logic.{_≢_, ⊎-elim}
-use mathlib.Core.List.{List, List·Memᴰ}
+use mathlib.Core.List.{List}
 use mathlib.Core.Option.{none}
 use Prim.Native.Nat.{ℕ, suc, _<_}
 use native.Mathlib.Omega.{arith}
@@ -16,10 +16,10 @@ use Rattle.board.specs.Paper.Entries.{Entries, Admissible, Shows, shown}
 use Rattle.board.specs.Paper.Limits.{jobLimit, Fits, Within}
 use Rattle.board.specs.Order.Leastness.{Below, Impossible}
 use Rattle.board.specs.Order.Laws.{atLeast-up}
-use Rattle.entries.specs.Paper.Entry.{Entry, addition, arc, mark, cut, addedRow, stated, addRow, stating, withEntry}
+use Rattle.entries.specs.Paper.Entry.{Entry, addition, other, addedRow, stated, addRow, stating, withEntry}
 use Rattle.entries.specs.Made.{ShowsEntry, with-split, with-join, with-jobs}
 use Rattle.entries.specs.Listed.{Agree, agree-sym, agreed}
-use Rattle.entries.specs.Allowed.{Allowed, allowed-known}
+use Rattle.entries.specs.Allowed.{KnownAll, Allowed}
 use Rattle.entries.specs.Paper.Enter.{counted}
 use Rattle.entries.specs.Settles.{Settled, SettledTo}
 
@@ -47,15 +47,12 @@ admissible-row es r h free fits =
     row k l (yes e) = rw (eq-eqb k (es .jobs) e) λ n. fits
     row k l (no n) = rw (ne-eqb k (es .jobs) n) (h .rows k (omega (arith, n)))
 
-admissible-stated : (es : Entries) (fs : List Fact) → Admissible es → ((f : Fact) → List·Memᴰ f fs → Known (es .jobs) f)
-    → Admissible (stating es fs)
+admissible-stated : (es : Entries) (fs : List Fact) → Admissible es → KnownAll (es .jobs) fs → Admissible (stating es fs)
 admissible-stated es fs h k = record { jobs = h .jobs; rows = h .rows; about = λ f. ⊎-elim (h .about f) (k f) }
 
 pub admissible-with : (es : Entries) (e : Entry) → Admissible es → Allowed (es .jobs) e → Admissible (withEntry es e)
-admissible-with es (addition l x d m) h ok = admissible-row es (addedRow l x d m) h (ok .0) (ok .1)
-admissible-with es (arc a b) h ok = admissible-stated es (stated (arc a b)) h (allowed-known (es .jobs) (arc a b) ok)
-admissible-with es (mark j m) h ok = admissible-stated es (stated (mark j m)) h (allowed-known (es .jobs) (mark j m) ok)
-admissible-with es (cut j x d) h ok = admissible-stated es (stated (cut j x d)) h (allowed-known (es .jobs) (cut j x d) ok)
+admissible-with es (addition l e d m) h ok = admissible-row es (addedRow l e d m) h (ok .0) (ok .1)
+admissible-with es (other s) h ok = admissible-stated es (stated s) h ok
 
 pub admissible-agree : (es es′ : Entries) → Agree es es′ → Admissible es → Admissible es′
 admissible-agree es es′ a h =

@@ -1,16 +1,15 @@
 -- "Repeating an accepted arc, mark or cut is accepted"; an invalid job's "further arcs and cuts are accepted without effect".
-use mathlib.Core.Path.{_≡_, refl, sym, subst}
+use mathlib.Core.Path.{_≡_, refl, subst⁻¹}
 use mathlib.Core.Logic.{⊎-elim}
 use mathlib.Core.Bool.{Bool, true, false}
-use mathlib.Core.List.{List, [], _∷_, List·Memᴰ·cases-cons, List·Memᴰ·eq-of-singleton}
+use mathlib.Core.List.{List, [], _∷_, List·Memᴰ·head, List·Memᴰ·cases-cons, List·Memᴰ·eq-of-singleton}
 use mathlib.Core.Option.{none}
-use Prim.Native.Nat.{ℕ}
 use native.Mathlib.Omega.{arith}
 use lib.IntN.{ℤ}
 use Rattle.minutes.specs.Bools.{clash}
 use Rattle.board.specs.declared.Board.{Board}
-use Rattle.board.specs.Paper.View.{View, Live, Invalid, Side, view}
-use Rattle.board.specs.Paper.Facts.{Fact, is-bound, Holds}
+use Rattle.board.specs.Paper.View.{View, Invalid, Side, view}
+use Rattle.board.specs.Paper.Facts.{is-arc, is-bound, Holds}
 use Rattle.board.specs.Paper.Entries.{Entries, shown, _⊑_, Least}
 use Rattle.board.specs.Order.Laws.{⊑-trans, holds-up}
 use Rattle.board.specs.Order.Unique.{least-unique, equal-boards}
@@ -18,14 +17,13 @@ use Rattle.closure.specs.Check.{passes}
 use Rattle.closure.specs.Checked.{passes-within, passes-least, obeys-passes}
 use Rattle.entries.specs.declared.Answer.the-variants as Answers
 use Rattle.entries.specs.declared.Entered.{Entered}
-use Rattle.entries.specs.Paper.Entry.{Entry, addition, arc, mark, cut, number, added, stated, withEntry}
-use Rattle.entries.specs.Paper.Gate.{checks, gate}
-use Rattle.entries.specs.Paper.Enter.{acceptance, counted, enter}
+use Rattle.entries.specs.Paper.Entry.{Statement, arc, cut, Entry, other, number, stated, withEntry}
+use Rattle.entries.specs.Paper.Gate.{statementChecks, gate}
+use Rattle.entries.specs.Paper.Enter.{counted, enter}
 use Rattle.entries.specs.Paper.Exact.{Outcome, by-table, impossible, accepted}
 use Rattle.entries.specs.Paper.Sequence.{Call, after}
-use Rattle.entries.specs.Made.{with-split, with-join, shows-facts}
-use Rattle.entries.specs.Allowed.{gate-allows, gate-more}
-use Rattle.entries.specs.Raw.{HoldAll}
+use Rattle.entries.specs.Made.{HoldAll, with-split, with-join}
+use Rattle.entries.specs.Allowed.{KnownAll, gate-allows, gate-more}
 use Rattle.entries.specs.Reached.{Reached, reached-counted}
 use Rattle.entries.specs.Stepped.{Step, step, reached-shown, enter-checked, enter-refused}
 
@@ -33,45 +31,34 @@ use Rattle.entries.specs.Stepped.{Step, step, reached-shown, enter-check
 abbrev pub withoutEffect : Board → Entered
 withoutEffect b = record { answer = Answers.Accepted; board = b }
 
--- an arc, mark or cut adds no job and gives no number
-adds-none : (es : Entries) (n : ℕ) (e : Entry) → added e ≡ [] → (withEntry es e .jobs ≡ es .jobs) × (acceptance n e ≡ Answers.Accepted)
-adds-none es n (addition l x d m) none-added = clash (cc)
-adds-none es n (arc a b) none-added = (refl, refl)
-adds-none es n (mark j m) none-added = (refl, refl)
-adds-none es n (cut j x d) none-added = (refl, refl)
-
--- an entry is accepted without effect where the board shows already what it states
-pub unaltered : (b : Board) (e : Entry) → passes b ≡ true → added e ≡ [] → gate (checks (b .jobs) e) ≡ none
-    → HoldAll (stated e) (view b) → enter b e ≡ withoutEffect b
-unaltered b e p none-added g holds = ends (enter b e) (enter-checked b e p)
+-- a statement is accepted without effect where the board shows already what it states
+pub unaltered : (b : Board) (s : Statement) → passes b ≡ true → gate (statementChecks (b .jobs) s) ≡ none
+    → HoldAll (stated s) (view b) → enter b (other s) ≡ withoutEffect b
+unaltered b s p g holds = ends (enter b (other s)) (enter-checked b (other s) p)
   where
     es : Entries
-    es = shown (view b)
+    es = withEntry (shown (view b)) (other s)
 
-    -- b itself is the least closed board over what it shows and the entry
-    least : Least (withEntry es e) b
+    -- b itself is the least closed board over what it shows and the statement
+    least : Least es b
     least =
         let old = passes-least b p .closed in
         record {
           closed =
               record {
                 within = old .within;
-                shows =
-                    record {
-                      count = sym (adds-none es (b .jobs) e none-added .0);
-                      atLeast = with-join es (view b) e (old .shows .atLeast) (shows-facts (b .jobs) e (view b) none-added holds);
-                    };
+                shows = record { count = refl; atLeast = with-join (shown (view b)) (view b) (other s) (old .shows .atLeast) holds };
                 rules = old .rules;
               };
-          least = λ c k. with-split es (view c) e (k .shows .atLeast) .0;
+          least = λ c k. with-split (shown (view b)) (view c) (other s) (k .shows .atLeast) .0;
         }
 
-    ends : (x : Entered) → Outcome es b e x → x ≡ withoutEffect b
+    ends : (x : Entered) → Outcome (shown (view b)) b (other s) x → x ≡ withoutEffect b
     ends _ (by-table r h) = clash (cc)
     ends _ (impossible h k) = absurd (k b (least .closed))
     ends _ (accepted h c l t) =
-        let same = equal-boards c b (l .closed .within) (passes-within b p) (record { same = least-unique (withEntry es e) c b l least; tally = t }) in
-        λ i. record { answer = adds-none es (b .jobs) e none-added .1 i; board = same i }
+        let same = equal-boards c b (l .closed .within) (passes-within b p) (record { same = least-unique es c b l least; tally = t }) in
+        λ i. record { answer = Answers.Accepted; board = same i }
 
 -- ---- repeated entries
 
@@ -82,12 +69,6 @@ record Later (b c : Board) : Type 0 where
 
 reached-later : (b c : Board) → Reached (shown (view b)) c → Later b c
 reached-later b c r = record { passes = obeys-passes c (r .within) (r .obeys); above = r .shows .atLeast }
-
-no-addition : (n : ℕ) (e : Entry) → acceptance n e ≡ Answers.Accepted → added e ≡ []
-no-addition n (addition l x d m) q = clash (cc)
-no-addition n (arc a b) q = refl
-no-addition n (mark j m) q = refl
-no-addition n (cut j x d) q = refl
 
 -- a call leaves a board that shows all that it showed before
 module _ (b : Board) (e : Entry) (p : passes b ≡ true) where
@@ -100,13 +81,12 @@ module _ (b : Board) (e : Entry) (p : passes b ≡ true) where
   call-later : Later b (enter b e .board)
   call-later = later (enter b e) (step (shown (view b)) b e (reached-shown b p))
 
-  -- an accepted arc, mark or cut met no refusal, and its board shows it
-  shown-after : (x : Entered) → Step (shown (view b)) b e x → x .answer ≡ Answers.Accepted
-      → (gate (checks (b .jobs) e) ≡ none) × (added e ≡ []) × HoldAll (stated e) (view (x .board))
-  shown-after _ (by-table r g) q = clash (cc)
-  shown-after _ (impossible g i) q = clash (cc)
-  shown-after _ (accepted g c r t) q =
-      (g, no-addition (b .jobs) e q, with-split (shown (view b)) (view c) e (r .shows .atLeast) .1 .facts)
+-- an accepted statement met no refusal, and its board shows it
+shown-after : (b : Board) (s : Statement) (x : Entered) → Step (shown (view b)) b (other s) x → x .answer ≡ Answers.Accepted
+    → (gate (statementChecks (b .jobs) s) ≡ none) × HoldAll (stated s) (view (x .board))
+shown-after b s _ (by-table r g) q = clash (cc)
+shown-after b s _ (impossible g i) q = clash (cc)
+shown-after b s _ (accepted g c r t) q = (g, with-split (shown (view b)) (view c) (other s) (r .shows .atLeast) .1)
 
 calls-later : (b : Board) (cs : List Call) → passes b ≡ true → Later b (after b cs)
 unfolding after
@@ -124,41 +104,40 @@ accepted-passes b e q = go (passes b) refl
     go false p = clash (cc (enter-refused b e p))
 
 -- "Repeating an accepted arc, mark or cut is accepted", at once or after any other calls, and has no effect
-pub repeated : (b : Board) (e : Entry) (cs : List Call) → enter b e .answer ≡ Answers.Accepted
-    → enter (after (enter b e .board) cs) e ≡ withoutEffect (after (enter b e .board) cs)
-repeated b e cs q =
-    let p = accepted-passes b e q in
-    let c = enter b e .board in
-    let one = call-later b e p in
+pub repeated : (b : Board) (s : Statement) (cs : List Call) → enter b (other s) .answer ≡ Answers.Accepted
+    → enter (after (enter b (other s) .board) cs) (other s) ≡ withoutEffect (after (enter b (other s) .board) cs)
+repeated b s cs q =
+    let p = accepted-passes b (other s) q in
+    let c = enter b (other s) .board in
+    let one = call-later b (other s) p in
     let rest = calls-later c cs (one .passes) in
-    let (g, none-added, holds) = shown-after b e p (enter b e) (step (shown (view b)) b e (reached-shown b p)) q in
-    unaltered (after c cs) e (rest .passes) none-added
-    (gate-more (b .jobs) _ (omega (arith, one .above .jobs, rest .above .jobs)) e none-added g)
+    let (g, holds) = shown-after b s (enter b (other s)) (step (shown (view b)) b (other s) (reached-shown b p)) q in
+    unaltered (after c cs) s (rest .passes)
+    (gate-more (b .jobs) _ (omega (arith, one .above .jobs, rest .above .jobs)) s g)
     (λ f m. holds-up (view c) _ (rest .above) f (holds f m))
 
 -- ---- invalid jobs
 
 -- an arc or cut that names an invalid job
-pub data NamesInvalid (v : View) : Entry → Type 0 where
+pub data NamesInvalid (v : View) : Statement → Type 0 where
   arc-from : (a b : ℤ) → Invalid v (number a) → NamesInvalid v (arc a b)
   arc-to : (a b : ℤ) → Invalid v (number b) → NamesInvalid v (arc a b)
   cut-of : (j e d : ℤ) → Invalid v (number j) → NamesInvalid v (cut j e d)
 
--- an arc between jobs of which one is invalid
-moot-arc : (b : Board) (i k : ℤ) → passes b ≡ true → gate (checks (b .jobs) (arc i k)) ≡ none
-    → (Live (view b) (number i) → Live (view b) (number k) → ⊥) → enter b (arc i k) ≡ withoutEffect b
-moot-arc b i k p g moot =
-    let (li, lk, ne) = gate-allows (b .jobs) (arc i k) g in
-    unaltered b (arc i k) p refl g λ f m.
-    subst (Holds (view b)) (sym (List·Memᴰ·eq-of-singleton m)) (li, lk, λ x y. absurd (moot x y))
+-- what is stated of an invalid job counts as shown
+counts : (v : View) (s : Statement) → NamesInvalid v s → KnownAll (v .jobs) (stated s) → HoldAll (stated s) v
+counts v _ (arc-from a b h) known f i =
+    let (la, lb, _) = known (is-arc (number a) (number b)) (List·Memᴰ·head refl) in
+    subst⁻¹ (Holds v) (List·Memᴰ·eq-of-singleton i) (la, lb, λ x y. absurd (x .1 (h .1)))
+counts v _ (arc-to a b h) known f i =
+    let (la, lb, _) = known (is-arc (number a) (number b)) (List·Memᴰ·head refl) in
+    subst⁻¹ (Holds v) (List·Memᴰ·eq-of-singleton i) (la, lb, λ x y. absurd (y .1 (h .1)))
+counts v _ (cut-of j e d h) known f i = ⊎-elim bound (λ i′. bound (List·Memᴰ·eq-of-singleton i′)) (List·Memᴰ·cases-cons i)
+  where
+    bound : {s : Side} {z : ℤ} → f ≡ is-bound s (number j) z → Holds v f
+    bound q = subst⁻¹ (Holds v) q (h .0, λ live. absurd (live .1 (h .1)))
 
 -- "its further arcs and cuts are accepted without effect", unless one of the checks 1 to 7 refuses them
-pub invalid-unaltered : (b : Board) (e : Entry) → passes b ≡ true → gate (checks (b .jobs) e) ≡ none
-    → NamesInvalid (view b) e → enter b e ≡ withoutEffect b
-invalid-unaltered b _ p g (arc-from i k h) = moot-arc b i k p g λ x y. x .1 (h .1)
-invalid-unaltered b _ p g (arc-to i k h) = moot-arc b i k p g λ x y. y .1 (h .1)
-invalid-unaltered b _ p g (cut-of j x d h) =
-    unaltered b (cut j x d) p refl g λ f m. ⊎-elim bound (λ m′. bound (List·Memᴰ·eq-of-singleton m′)) (List·Memᴰ·cases-cons m)
-  where
-    bound : {f : Fact} {s : Side} {z : ℤ} → f ≡ is-bound s (number j) z → Holds (view b) f
-    bound q = subst (Holds (view b)) (sym q) (h .0, λ live. absurd (live .1 (h .1)))
+pub invalid-unaltered : (b : Board) (s : Statement) → passes b ≡ true → gate (statementChecks (b .jobs) s) ≡ none
+    → NamesInvalid (view b) s → enter b (other s) ≡ withoutEffect b
+invalid-unaltered b s p g h = unaltered b s p g (counts (view b) s h (gate-allows (b .jobs) (other s) g))

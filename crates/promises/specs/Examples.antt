@@ -23,9 +23,9 @@ use Rattle.entries.specs.declared.Answer.{Answer}
 use Rattle.entries.specs.declared.Answer.the-variants as Answers
 use Rattle.entries.specs.declared.PairAnswer.{PairAnswer}
 use Rattle.entries.specs.declared.PairAnswer.the-variants as Pairs
-use Rattle.entries.specs.Paper.Entry.{Entry, addition, arc, mark}
+use Rattle.entries.specs.Paper.Entry.{arc, mark, Entry, addition, other}
 use Rattle.entries.specs.Paper.Gate.{gate}
-use Rattle.entries.specs.Paper.Enter.{appendAll, updateAll, raw, closureWith, enter}
+use Rattle.entries.specs.Paper.Enter.{updateAll, raw, closureWith, enter}
 use Rattle.entries.specs.Paper.Looking.{pair}
 
 -- a valid job of length l in the window e to d, and an undecided one
@@ -36,7 +36,10 @@ abbrev pub undecided : ℕ → ℕ → ℕ → Entry
 undecided l e d = addition (pos l) (pos e) (pos d) (pos 0)
 
 abbrev pub arrow : ℕ → ℕ → Entry
-arrow a b = arc (pos a) (pos b)
+arrow a b = other (arc (pos a) (pos b))
+
+abbrev pub made-valid : ℕ → Entry
+made-valid j = other (mark (pos j) (pos 1))
 
 -- A line of an example: an entry that is accepted, or refused with a number; or something said of the board after it.
 pub data Line : Type 0 where
@@ -113,17 +116,17 @@ M10 =
     ∷ enters (arrow 0 1) ∷ enters (arrow 1 2) ∷ pairIs 0 2 0 ∷ []
 
 abbrev pub M11 : List Line
-M11 = M10 ++ enters (mark (pos 1) (pos 1)) ∷ pairIs 0 2 1 ∷ []
+M11 = M10 ++ enters (made-valid 1) ∷ pairIs 0 2 1 ∷ []
 
 abbrev pub M12 : List Line
 M12 =
     enters (undecided 5 0 100) ∷ enters (undecided 5 0 100) ∷ enters (arrow 0 1) ∷ enters (arrow 1 0)
-    ∷ pairIs 0 1 3 ∷ enters (mark (pos 0) (pos 1)) ∷ markIs 1 2 ∷ []
+    ∷ pairIs 0 1 3 ∷ enters (made-valid 0) ∷ markIs 1 2 ∷ []
 
 abbrev pub table : List (List Line)
 table = M1 ∷ M2 ∷ M3 ∷ M4 ∷ M5 ∷ M6 ∷ M7 ∷ M8 ∷ M9 ∷ M10 ∷ M11 ∷ M12 ∷ []
 
 -- every line of every example is true
 pub examples-hold : all-true table ≡ true
-unfolding eqZ bit with without union difference singleton sum all implies between isTime isLength isZero fits isZeroRow full shape holdsJob holdsNothing joinable agrees withinLimits live valid exclude tighten update _andThen_ guard _orElse_ first any beyond cramped tooLate joined pushers pushed push next find close closure settled passes gate appendAll updateAll raw closureWith enter pair
+unfolding eqZ bit with without union difference singleton sum all implies between isTime isLength isZero fits isZeroRow full shape holdsJob holdsNothing joinable agrees withinLimits live valid exclude tighten update _andThen_ guard _orElse_ first any beyond cramped tooLate joined pushers pushed push next find close closure settled passes gate updateAll raw closureWith enter pair
 examples-hold = refl

@@ -8,20 +8,14 @@ use Rattle.board.specs.declared.Refusal.{Refusal}
 use Rattle.board.specs.declared.Refusal.the-variants as Refused
 use Rattle.board.specs.Paper.Facts.{Fact}
 use Rattle.board.specs.Paper.Limits.{tallyLimit}
-use Rattle.board.specs.Paper.View.{Row}
 use Rattle.board.specs.Update.Updates.{update, append, _andThen_}
 use Rattle.closure.specs.Closing.{closure}
 use Rattle.closure.specs.Check.{passes}
 use Rattle.entries.specs.declared.Answer.{Answer}
 use Rattle.entries.specs.declared.Answer.the-variants as Answers
 use Rattle.entries.specs.declared.Entered.{Entered}
-use Rattle.entries.specs.Paper.Entry.{Entry, addition, arc, mark, cut, added, stated}
+use Rattle.entries.specs.Paper.Entry.{Entry, addition, other, addedRow, stated}
 use Rattle.entries.specs.Paper.Gate.{checks, gate}
-
--- the rows added to the board, one after the other
-unfoldable pub appendAll : Board → List Row → Board
-appendAll b [] = b
-appendAll b (r ∷ rs) = appendAll (append b r) rs
 
 -- the facts shown, one after the other, or none where a mark would have to change
 unfoldable pub updateAll : Board → List Fact → Option Board
@@ -30,7 +24,8 @@ updateAll b (f ∷ fs) = update b f andThen (λ c. updateAll c fs)
 
 -- the entry shown by the board, nothing inferred yet
 unfoldable pub raw : Board → Entry → Option Board
-raw b e = updateAll (appendAll b (added e)) (stated e)
+raw b (addition l e d m) = some (append b (addedRow l e d m))
+raw b (other s) = updateAll b (stated s)
 
 -- the closure with the entry, or none where it is a contradiction
 unfoldable pub closureWith : Board → Entry → Option Board
@@ -53,9 +48,7 @@ counted b =
 -- acceptance by a board of n jobs; an addition "gives the job's number"
 abbrev pub acceptance : ℕ → Entry → Answer
 acceptance n (addition l e d m) = Answers.Added n
-acceptance n (arc a b) = Answers.Accepted
-acceptance n (mark j m) = Answers.Accepted
-acceptance n (cut j e d) = Answers.Accepted
+acceptance n (other s) = Answers.Accepted
 
 -- "A refusal carries its number only and alters nothing"
 abbrev pub refused : Refusal → Board → Entered

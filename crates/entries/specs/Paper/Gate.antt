@@ -11,7 +11,7 @@ use Rattle.board.specs.declared.Refusal.{Refusal}
 use Rattle.board.specs.declared.Refusal.the-variants as Refused
 use Rattle.board.specs.Paper.Limits.{jobLimit}
 use Rattle.board.specs.Tests.Limits.{between, isLength, isTime}
-use Rattle.entries.specs.Paper.Entry.{Entry, addition, arc, mark, cut}
+use Rattle.entries.specs.Paper.Entry.{Statement, arc, mark, cut, Entry, addition, other}
 
 -- "numbered from 0": is z the number of a job on a board of n jobs?
 abbrev pub isJob : ℕ → ℤ → Bool
@@ -40,7 +40,13 @@ timeCheck e d = line Refused.Time (not (isTime e && isTime d))
 abbrev pub windowCheck : ℤ → ℤ → Check
 windowCheck e d = line Refused.Window (ltZ d e)
 
--- 1 full, "an addition to 64 jobs"; 4 length, "below 1 or above 10000"; 7 mark, "addition: not 0 or 1; mark: not 1 or 2"
+-- 7 mark, "mark: not 1 or 2"
+abbrev pub statementChecks : ℕ → Statement → List Check
+statementChecks n (arc a b) = pairChecks n a b
+statementChecks n (mark j m) = jobCheck n j ∷ line Refused.Mark (not (between (pos 1) (pos 2) m)) ∷ []
+statementChecks n (cut j e d) = jobCheck n j ∷ timeCheck e d ∷ windowCheck e d ∷ []
+
+-- 1 full, "an addition to 64 jobs"; 4 length, "below 1 or above 10000"; 7 mark, "addition: not 0 or 1"
 abbrev pub checks : ℕ → Entry → List Check
 checks n (addition l e d m) =
     line Refused.Full (leb jobLimit n)
@@ -49,9 +55,7 @@ checks n (addition l e d m) =
     ∷ windowCheck e d
     ∷ line Refused.Mark (not (between (pos 0) (pos 1) m))
     ∷ []
-checks n (arc a b) = pairChecks n a b
-checks n (mark j m) = jobCheck n j ∷ line Refused.Mark (not (between (pos 1) (pos 2) m)) ∷ []
-checks n (cut j e d) = jobCheck n j ∷ timeCheck e d ∷ windowCheck e d ∷ []
+checks n (other s) = statementChecks n s
 
 -- the first refusal that the call meets
 unfoldable pub gate : List Check → Option Refusal
