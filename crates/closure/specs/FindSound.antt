@@ -40,14 +40,16 @@ module _ (v : View) where
   exclude : (a b : ℕ) → valid v a ≡ true → live v b ≡ true → v .arc a b ≡ true → v .arc b a ≡ true → Unshown v (is-invalid b)
   exclude a b va lb ab ba = let l = live-yes v b lb in invalid-unshown b l (r2 a b (valid-yes v a va) l ab ba)
 
-  order : (a b : ℕ) → live v a ≡ true → live v b ≡ true → not (eqb a b) ≡ true → tooLate v a b ≡ true → not (v .arc b a) ≡ true → Unshown v (is-arc b a)
+  order : (a b : ℕ) → live v a ≡ true → live v b ≡ true → not (eqb a b) ≡ true → tooLate v a b ≡ true
+      → not (v .arc b a) ≡ true → Unshown v (is-arc b a)
   unfolding tooLate
   order a b la lb ne e no-arc =
       let l = live-yes v a la in
       let m = live-yes v b lb in
       arc-unshown b a m l no-arc (r3 a b l m (eqb-false a b (not-true _ ne)) (omega whole))
 
-  join : (a c : ℕ) → live v a ≡ true → live v c ≡ true → not (eqb a c) ≡ true → joined v a c ≡ true → not (v .arc a c) ≡ true → Unshown v (is-arc a c)
+  join : (a c : ℕ) → live v a ≡ true → live v c ≡ true → not (eqb a c) ≡ true → joined v a c ≡ true
+      → not (v .arc a c) ≡ true → Unshown v (is-arc a c)
   unfolding joined
   join a c la lc ne e no-arc =
       let l = live-yes v a la in

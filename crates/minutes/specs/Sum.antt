@@ -43,7 +43,16 @@ sum-plus zero f g = refl
 sum-plus (suc n) f g =
     let F = sum n f in
     let G = sum n g in
-    omega (whole, sum-plus n f g, plus (sum n (λ k. f k +ℤ g k)) (f n +ℤ g n), plus (f n) (g n), plus F G, plus F (f n), plus G (g n), plus (F +ℤ f n) (G +ℤ g n))
+    omega (
+      whole,
+      sum-plus n f g,
+      plus (sum n (λ k. f k +ℤ g k)) (f n +ℤ g n),
+      plus (f n) (g n),
+      plus F G,
+      plus F (f n),
+      plus G (g n),
+      plus (F +ℤ f n) (G +ℤ g n),
+    )
 
 pub total-same : (n : ℕ) (S : ℕ → Bool) (f g : ℕ → ℤ) → ((k : ℕ) → k < n → S k ≡ true → f k ≡ g k) → total n S f ≡ total n S g
 total-same n S f g h = sum-same n (chosen S f) (chosen S g) λ k l. at (S k) (f k) (g k) (h k l)
@@ -64,7 +73,9 @@ total-more n (suc m) S f l h = go (leb n m) refl (λ b. total-more n m S f b h)
         rw (h m b) (omega (whole, plus (total m S f) (pos 0), ih b))
     go false e ih = let d : n ≡ suc m = omega (arith, leb-false n m e) in rw d
 
-pub total-subset : (n : ℕ) (S R : ℕ → Bool) (f : ℕ → ℤ) → ((k : ℕ) → k < n → S k ≡ true → R k ≡ true) → ((k : ℕ) → k < n → R k ≡ true → pos 0 ≤ℤ f k) → total n S f ≤ℤ total n R f
+pub total-subset : (n : ℕ) (S R : ℕ → Bool) (f : ℕ → ℤ)
+    → ((k : ℕ) → k < n → S k ≡ true → R k ≡ true)
+    → ((k : ℕ) → k < n → R k ≡ true → pos 0 ≤ℤ f k) → total n S f ≤ℤ total n R f
 total-subset n S R f h p = sum-mono n (chosen S f) (chosen R f) λ k l. at (S k) (R k) (f k) (h k l) (p k l)
   where
     at : (s r : Bool) (x : ℤ) → (s ≡ true → r ≡ true) → (r ≡ true → pos 0 ≤ℤ x) → cond s x (pos 0) ≤ℤ cond r x (pos 0)
@@ -83,7 +94,8 @@ total-split n S P f = sum-same n (chosen S f) _ (λ k l. at (S k) (P k) (f k)) �
     at false p x = refl
 
 -- a member of S below n at which f is least
-pub least-member : (n : ℕ) (S : ℕ → Bool) (f : ℕ → ℤ) (x : ℕ) → x < n → S x ≡ true → (y : ℕ) × (y < n) × (S y ≡ true) × ((k : ℕ) → k < n → S k ≡ true → f y ≤ℤ f k)
+pub least-member : (n : ℕ) (S : ℕ → Bool) (f : ℕ → ℤ) (x : ℕ) → x < n → S x ≡ true
+    → (y : ℕ) × (y < n) × (S y ≡ true) × ((k : ℕ) → k < n → S k ≡ true → f y ≤ℤ f k)
 least-member n S f x l s = upto n (omega arith)
   where
     Above : ℕ → ℕ → Type 0
@@ -92,7 +104,8 @@ least-member n S f x l s = upto n (omega arith)
     Least : ℕ → Type 0
     Least i = (y : ℕ) × (y < n) × (S y ≡ true) × ((k : ℕ) → k < i → Above y k)
 
-    step : (i : ℕ) → i < n → (y : ℕ) → y < n → S y ≡ true → ((k : ℕ) → k < i → Above y k) → (p q : Bool) → S i ≡ p → ltZ (f i) (f y) ≡ q → Least (suc i)
+    step : (i : ℕ) → i < n → (y : ℕ) → y < n → S y ≡ true → ((k : ℕ) → k < i → Above y k)
+        → (p q : Bool) → S i ≡ p → ltZ (f i) (f y) ≡ q → Least (suc i)
     step i b y c t h true true d e = (i, b, d, λ k a. below-more (Above i) i (λ m r u. omega (whole, h m r u)) (λ u. omega whole) k (omega arith))
     step i b y c t h true false d e = (y, c, t, λ k a. below-more (Above y) i h (λ u. omega whole) k (omega arith))
     step i b y c t h false q d e = (y, c, t, λ k a. below-more (Above y) i h (λ u. clash (cc)) k (omega arith))
