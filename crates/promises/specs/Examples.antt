@@ -1,11 +1,12 @@
--- "Twelve marked examples": M1 to M12 as one table, computed as a whole through `enter`.
+-- "Twelve marked examples": M1 to M12 and the paper's whole case without its plan, as one table, computed as a whole through
+-- `enter`, `row` and `pair`.
 use mathlib.Core.Path.{_≡_, refl}
 use mathlib.Core.Bool.{Bool, true, false, _&&_}
 use mathlib.Core.List.{List, [], _∷_, _++_}
 use mathlib.Core.Option.{Option, none, some}
 use Prim.Native.Nat.{ℕ}
 use lib.Dec.{eqb}
-use lib.IntN.{pos}
+use lib.IntN.{ℤ, pos, negsuc}
 use Rattle.words.specs.Bit.{bit, with, without, union, difference, singleton}
 use Rattle.minutes.specs.Linear.{eqZ}
 use Rattle.minutes.specs.Sum.{sum}
@@ -21,12 +22,14 @@ use Rattle.closure.specs.Closing.{close, closure}
 use Rattle.closure.specs.Check.{settled, passes}
 use Rattle.entries.specs.declared.Answer.{Answer}
 use Rattle.entries.specs.declared.Answer.the-variants as Answers
+use Rattle.entries.specs.declared.RowAnswer.{RowAnswer}
+use Rattle.entries.specs.declared.RowAnswer.the-variants as Rows
 use Rattle.entries.specs.declared.PairAnswer.{PairAnswer}
 use Rattle.entries.specs.declared.PairAnswer.the-variants as Pairs
-use Rattle.entries.specs.Paper.Entry.{arc, mark, Entry, addition, other}
+use Rattle.entries.specs.Paper.Entry.{arc, mark, cut, Entry, addition, other}
 use Rattle.entries.specs.Paper.Gate.{gate}
 use Rattle.entries.specs.Paper.Enter.{updateAll, raw, closureWith, enter}
-use Rattle.entries.specs.Paper.Looking.{pair}
+use Rattle.entries.specs.Paper.Looking.{row, pair}
 
 -- a valid job of length l in the window e to d, and an undecided one
 abbrev pub job : ℕ → ℕ → ℕ → Entry
@@ -48,6 +51,9 @@ pub data Line : Type 0 where
   earliestIs : ℕ → ℕ → Line
   markIs : ℕ → ℕ → Line
   pairIs : ℕ → ℕ → ℕ → Line
+  gapIs : ℕ → ℕ → ℤ → Line
+  rowIs : ℕ → ℕ → ℤ → ℤ → ℕ → ℕ → Line
+  tallyIs : ℕ → Line
 
 abbrev pub refusal : Answer → Option ℕ
 refusal (Answers.Added k) = none
@@ -64,6 +70,16 @@ abbrev pub arcsOf : PairAnswer → Option ℕ
 arcsOf (Pairs.Pair arcs gap) = some arcs
 arcsOf (Pairs.Refused r) = none
 
+abbrev pub gapOf : PairAnswer → ℤ → Bool
+gapOf (Pairs.Pair arcs gap) g = eqZ gap g
+gapOf (Pairs.Refused r) g = false
+
+-- mark, E, D, the set before and the set after
+abbrev pub rowGives : RowAnswer → ℕ → ℤ → ℤ → ℕ → ℕ → Bool
+rowGives (Rows.Row m′ e′ d′ b′ a′) m e d b a =
+    eqb m′ m && eqZ e′ e && eqZ d′ d && eqb b′ b && eqb a′ a
+rowGives (Rows.Refused r) m e d b a = false
+
 -- the lines of an example are true from board b on
 abbrev pub true-from : Board → List Line → Bool
 true-from b [] = true
@@ -72,6 +88,9 @@ true-from b (refuses n e ∷ ls) = let o = enter b e in gives (refusal (o .answe
 true-from b (earliestIs j e ∷ ls) = eqZ (rowOf b j .earliest) (pos e) && true-from b ls
 true-from b (markIs j m ∷ ls) = eqb (rowOf b j .mark) m && true-from b ls
 true-from b (pairIs x y p ∷ ls) = gives (arcsOf (pair b (pos x) (pos y))) (some p) && true-from b ls
+true-from b (gapIs x y g ∷ ls) = gapOf (pair b (pos x) (pos y)) g && true-from b ls
+true-from b (rowIs j m e d p q ∷ ls) = rowGives (row b (pos j)) m e d p q && true-from b ls
+true-from b (tallyIs n ∷ ls) = eqb (b .tally) n && true-from b ls
 
 abbrev pub all-true : List (List Line) → Bool
 all-true [] = true
@@ -123,10 +142,18 @@ M12 =
     enters (undecided 5 0 100) ∷ enters (undecided 5 0 100) ∷ enters (arrow 0 1) ∷ enters (arrow 1 0)
     ∷ pairIs 0 1 3 ∷ enters (made-valid 0) ∷ markIs 1 2 ∷ []
 
+-- "Whole case"
+abbrev pub wholeCase : List Line
+wholeCase =
+    enters (job 30 0 100) ∷ enters (undecided 40 0 100) ∷ enters (job 20 10 60) ∷ enters (arrow 0 2)
+    ∷ rowIs 1 0 (pos 50) (pos 100) 5 0 ∷ pairIs 2 1 1 ∷ gapIs 2 1 (negsuc 9)
+    ∷ enters (other (cut (pos 1) (pos 0) (pos 85))) ∷ rowIs 1 2 (pos 0) (pos 0) 0 0
+    ∷ refuses 8 (made-valid 1) ∷ tallyIs 1 ∷ []
+
 abbrev pub table : List (List Line)
-table = M1 ∷ M2 ∷ M3 ∷ M4 ∷ M5 ∷ M6 ∷ M7 ∷ M8 ∷ M9 ∷ M10 ∷ M11 ∷ M12 ∷ []
+table = M1 ∷ M2 ∷ M3 ∷ M4 ∷ M5 ∷ M6 ∷ M7 ∷ M8 ∷ M9 ∷ M10 ∷ M11 ∷ M12 ∷ wholeCase ∷ []
 
 -- every line of every example is true
 pub examples-hold : all-true table ≡ true
-unfolding eqZ bit with without union difference singleton sum all implies between isTime isLength isZero fits isZeroRow full shape holdsJob holdsNothing joinable agrees withinLimits live valid exclude tighten update _andThen_ guard _orElse_ first any beyond cramped tooLate joined pushers pushed push next find close closure settled passes gate updateAll raw closureWith enter pair
+unfolding eqZ bit with without union difference singleton sum all implies between isTime isLength isZero fits isZeroRow full shape holdsJob holdsNothing joinable agrees withinLimits live valid exclude tighten update _andThen_ guard _orElse_ first any beyond cramped tooLate joined pushers pushed push next find close closure settled passes gate updateAll raw closureWith enter row pair
 examples-hold = refl
