@@ -8,16 +8,22 @@ use Rattle.minutes.specs.Linear.{whole, plus, minus}
 use Rattle.minutes.specs.Sum.{least-member}
 use Rattle.board.specs.Paper.View.{View, Live, Valid, Side, early, late, bound, Beyond}
 use Rattle.board.specs.Paper.Facts.{is-arc, is-bound, is-invalid, Holds}
-use Rattle.board.specs.Paper.Rules.{energy, R5, Rules}
+use Rattle.board.specs.Paper.Rules.{energy, R4, R5, Rules}
 use Rattle.board.specs.Inference.Infers.{Pushing, r1, r2, r3, r45, r6, Obeys}
 use Rattle.board.specs.Inference.Forced.{valid-live}
 
--- R4 and R5 as one statement with a side, so that each is related to the inference rule once. On side early it is R4 word
--- for word; on side late it is R5 with the signs turned.
+-- R4 and R5 as one statement with a side, so that the inference rule is related to both at once: on side early it is R4, on
+-- side late R5 with the signs turned.
 abbrev Pushes : View → Side → Type 0
 Pushes v s = (j : ℕ) → Live v j → (S : ℕ → Bool) → ((k : ℕ) → S k ≡ true → Valid v k × Beyond v s k j)
     → (x : ℕ) → S x ≡ true → ((k : ℕ) → S k ≡ true → bound s (v .row x) ≤ℤ bound s (v .row k))
     → (bound s (v .row x) +ℤ energy v S) ≤ℤ bound s (v .row j)
+
+early-raise : (v : View) → Pushes v early → R4 v
+early-raise v pushes b lb S h = pushes b lb S λ k e. (h k e .0, h k e .1)
+
+raise-early : (v : View) → R4 v → Pushes v early
+raise-early v raise b lb S h = raise b lb S λ k e. search
 
 late-lower : (v : View) → Pushes v late → R5 v
 late-lower v pushes a la S h x sx high =
@@ -54,7 +60,7 @@ obeys-rules v obeys =
       join = λ a b c ab bc vb la lc ne. obeys (is-arc a c) (r1 a b c la vb lc ne ab bc) .2 la lc;
       exclude = λ a b la lb ab ba va. obeys (is-invalid b) (r2 a b va lb ab ba);
       order = λ a b la lb ne h. obeys (is-arc b a) (r3 a b la lb ne h) .2 lb la;
-      raise = obeys-pushes v obeys early;
+      raise = early-raise v (obeys-pushes v obeys early);
       lower = late-lower v (obeys-pushes v obeys late);
       room = λ j lj h. obeys (is-invalid j) (r6 j lj h);
     }
@@ -63,6 +69,6 @@ pub rules-obey : (v : View) → Rules v → Obeys v
 rules-obey v rules _ (r1 a b c la vb lc ne ab bc) = (la .0, lc .0, λ la′ lc′. rules .join a b c ab bc vb la lc ne)
 rules-obey v rules _ (r2 a b va lb ab ba) = rules .exclude a b (valid-live v a va) lb ab ba va
 rules-obey v rules _ (r3 a b la lb ne h) = (lb .0, la .0, λ lb′ la′. rules .order a b la lb ne h)
-rules-obey v rules _ (r45 early j S m lj p) = pushes-holds v early (rules .raise) j S m lj p
+rules-obey v rules _ (r45 early j S m lj p) = pushes-holds v early (raise-early v (rules .raise)) j S m lj p
 rules-obey v rules _ (r45 late j S m lj p) = pushes-holds v late (lower-late v (rules .lower)) j S m lj p
 rules-obey v rules _ (r6 j lj h) = rules .room j lj h
