@@ -9,9 +9,9 @@ use Rattle.board.specs.Paper.Facts.{Fact}
 use Rattle.closure.specs.Find.{find}
 
 -- nothing is left to infer
-unfoldable pub settled : Option Fact → Bool
-settled none = true
-settled (some f) = false
+unfoldable pub nothingLeft : Option Fact → Bool
+nothingLeft none = true
+nothingLeft (some f) = false
 
 unfoldable pub passes : Board → Bool
-passes b = withinLimits b && settled (find (view b))
+passes b = withinLimits b && nothingLeft (find (view b))

@@ -18,32 +18,32 @@ use Rattle.closure.specs.Find.{find}
 use Rattle.closure.specs.FindSound.{find-sound}
 use Rattle.closure.specs.FindComplete.{find-complete}
 use Rattle.closure.specs.Closes.{lengths}
-use Rattle.closure.specs.Check.{settled, passes}
+use Rattle.closure.specs.Check.{nothingLeft, passes}
 
-settled-none : (o : Option Fact) → settled o ≡ true → o ≡ none
-unfolding settled
+settled-none : (o : Option Fact) → nothingLeft o ≡ true → o ≡ none
+unfolding nothingLeft
 settled-none none e = refl
 settled-none (some f) e = absurd (refuted refl e)
 
-nothing-left : (b : Board) → Obeys (view b) → (o : Option Fact) → find (view b) ≡ o → settled o ≡ true
-unfolding settled
+nothing-left : (b : Board) → Obeys (view b) → (o : Option Fact) → find (view b) ≡ o → nothingLeft o ≡ true
+unfolding nothingLeft
 nothing-left b obeys none e = refl
 nothing-left b obeys (some f) e = let (i, unshown) = find-sound (view b) f e in absurd (unshown (obeys f i))
 
 module _ (b : Board) where
   pub passes-within : passes b ≡ true → Within b
   unfolding passes
-  passes-within e = limits-yes b (and-parts (withinLimits b) (settled (find (view b))) e .0)
+  passes-within e = limits-yes b (and-parts (withinLimits b) (nothingLeft (find (view b))) e .0)
 
   pub passes-obeys : passes b ≡ true → Obeys (view b)
   unfolding passes
   passes-obeys e =
       find-complete (view b) (lengths b (passes-within e))
-      (settled-none (find (view b)) (and-parts (withinLimits b) (settled (find (view b))) e .1))
+      (settled-none (find (view b)) (and-parts (withinLimits b) (nothingLeft (find (view b))) e .1))
 
   pub obeys-passes : Within b → Obeys (view b) → passes b ≡ true
   unfolding passes
-  obeys-passes within obeys = and-both (withinLimits b) (settled (find (view b))) (limits-show b within) (nothing-left b obeys (find (view b)) refl)
+  obeys-passes within obeys = and-both (withinLimits b) (nothingLeft (find (view b))) (limits-show b within) (nothing-left b obeys (find (view b)) refl)
 
   -- "a board handed in that passes check 0 is the least closed board over what it shows"
   pub passes-least : passes b ≡ true → Least (shown (view b)) b

@@ -11,6 +11,7 @@ use Rattle.closure.specs.Find.{find}
 abbrev pub steps : ℕ
 steps = jobLimit * 2000001 + jobLimit * jobLimit
 
+-- at most n steps; with more steps allowed than there are inferences to make, the first clause is never met
 unfoldable pub close : ℕ → Board → Option Board
 close zero b = some b
 close (suc n) b = elim (find (view b)) [ none ↦ some b | some f ↦ update b f andThen (λ c. close n c) ]

@@ -8,7 +8,7 @@ use lib.Signed.{leZ, ltZ}
 use Rattle.board.specs.Paper.View.{View, Side, early, late, bound}
 use Rattle.board.specs.Paper.Facts.{Fact, is-arc, is-bound, is-invalid}
 use Rattle.board.specs.Paper.Rules.{energy}
-use Rattle.board.specs.Tests.Live.{live, valid}
+use Rattle.board.specs.Tests.Live.{live, valid, roomy}
 
 -- the fact, where the test holds
 unfoldable pub guard : Bool → Fact → Option Fact
@@ -36,10 +36,6 @@ module _ (v : View) where
   beyond early k j = v .arc k j
   beyond late k j = v .arc j k
 
-  -- R6: E + length > D
-  unfoldable pub cramped : ℕ → Bool
-  cramped j = ltZ (v .row j .latest) (v .row j .earliest +ℤ v .row j .length)
-
   -- R3: E of A + length of A + length of B > D of B
   unfoldable pub tooLate : ℕ → ℕ → Bool
   tooLate a b = ltZ (v .row b .latest) (v .row a .earliest +ℤ v .row a .length +ℤ v .row b .length)
@@ -63,7 +59,7 @@ module _ (v : View) where
   -- what a rule infers at the pair of i and k, and the view does not show
   unfoldable pub next : ℕ → ℕ → Option Fact
   next i k =
-      guard (live v i && cramped i) (is-invalid i)
+      guard (live v i && not (roomy (v .row i))) (is-invalid i)
       orElse guard (valid v i && live v k && v .arc i k && v .arc k i) (is-invalid k)
       orElse guard (live v i && live v k && not (eqb i k) && tooLate i k && not (v .arc k i)) (is-arc k i)
       orElse guard (live v i && live v k && not (eqb i k) && joined i k && not (v .arc i k)) (is-arc i k)

@@ -13,8 +13,8 @@ use Rattle.board.specs.Paper.View.{View, Live, Valid, Arc, Side, early, late, b
 use Rattle.board.specs.Paper.Facts.{Fact}
 use Rattle.board.specs.Paper.Rules.{energy}
 use Rattle.board.specs.Inference.Infers.{Pushing, r1, r2, r3, r45, r6, Obeys}
-use Rattle.board.specs.Tests.Live.{live-show, valid-show}
-use Rattle.closure.specs.Find.{_orElse_, cramped, tooLate, joined, pushers, pushed, push, next, find}
+use Rattle.board.specs.Tests.Live.{live-show, valid-show, roomy}
+use Rattle.closure.specs.Find.{_orElse_, tooLate, joined, pushers, pushed, push, next, find}
 use Rattle.closure.specs.FindSound.{beyond-test, pushing}
 use Rattle.closure.specs.Search.{guard-none, orElse-none, first-none, any-show}
 
@@ -87,7 +87,7 @@ module _ (v : View) (lengths : (k : ℕ) → Valid v k → pos 0 ≤ℤ v .row k
   joined-show a b c vb ab bc = any-show (v .jobs) _ b (vb .0) (rw (valid-show v b vb, ab, bc))
 
   pub find-complete : Obeys v
-  unfolding next cramped tooLate
+  unfolding next tooLate
   find-complete _ (r1 a b c la vb lc ne ab bc) = (la .0, lc .0, λ _ _. is-true (v .arc a c) found)
     where
       found : v .arc a c ≡ false → ⊥
@@ -110,4 +110,5 @@ module _ (v : View) (lengths : (k : ℕ) → Valid v k → pos 0 ≤ℤ v .row k
           (rw (live-show v a la, live-show v b lb, ne-eqb a b ne, late-by, e))
   find-complete _ (r45 s j S m lj p) = (lj .0, λ _. push-kept s j S m lj p)
   find-complete _ (r6 j lj h) =
-      absurd (refuted (guard-none _ _ (no-part (next-none j j (lj .0) (lj .0)) .room)) (rw (live-show v j lj) (omega whole)))
+      let short : roomy (v .row j) ≡ false = omega whole in
+      absurd (refuted (guard-none _ _ (no-part (next-none j j (lj .0) (lj .0)) .room)) (rw (live-show v j lj, short)))

@@ -13,8 +13,8 @@ use Rattle.minutes.specs.Linear.{whole}
 use Rattle.board.specs.Paper.View.{View, Live, Side, early, late, bound, Beyond}
 use Rattle.board.specs.Paper.Facts.{Fact, is-arc, is-invalid, Holds, Known}
 use Rattle.board.specs.Inference.Infers.{Pushing, Infers, r1, r2, r3, r45, r6}
-use Rattle.board.specs.Tests.Live.{live, valid, live-yes, valid-yes}
-use Rattle.closure.specs.Find.{beyond, cramped, tooLate, joined, pushers, pushed, push, next, find}
+use Rattle.board.specs.Tests.Live.{live, valid, live-yes, valid-yes, roomy}
+use Rattle.closure.specs.Find.{beyond, tooLate, joined, pushers, pushed, push, next, find}
 use Rattle.closure.specs.Search.{Finds, given, guard-finds, _else_, first-finds, any-member}
 
 pub beyond-test : (v : View) (s : Side) (k j : ℕ) → (beyond v s k j ≡ true) ↔ Beyond v s k j
@@ -33,9 +33,8 @@ module _ (v : View) where
   arc-unshown : (a b : ℕ) → Live v a → Live v b → not (v .arc a b) ≡ true → Infers v (is-arc a b) → Unshown v (is-arc a b)
   arc-unshown a b la lb e h = (h, λ m. refuted (not-true (v .arc a b) e) (m .2 la lb))
 
-  room : (j : ℕ) → live v j ≡ true → cramped v j ≡ true → Unshown v (is-invalid j)
-  unfolding cramped
-  room j lj e = let l = live-yes v j lj in invalid-unshown j l (r6 j l (omega whole))
+  room : (j : ℕ) → live v j ≡ true → not (roomy (v .row j)) ≡ true → Unshown v (is-invalid j)
+  room j lj e = let l = live-yes v j lj in invalid-unshown j l (r6 j l (omega (whole, not-true (roomy (v .row j)) e)))
 
   exclude : (a b : ℕ) → valid v a ≡ true → live v b ≡ true → v .arc a b ≡ true → v .arc b a ≡ true → Unshown v (is-invalid b)
   exclude a b va lb ab ba = let l = live-yes v b lb in invalid-unshown b l (r2 a b (valid-yes v a va) l ab ba)
@@ -83,7 +82,7 @@ module _ (v : View) where
   next-sound : (i k : ℕ) → Finds (Unshown v) (next v i k)
   unfolding next
   next-sound i k =
-      guard-finds (live v i) (cramped v i ∷ []) _ (room i)
+      guard-finds (live v i) (not (roomy (v .row i)) ∷ []) _ (room i)
       else guard-finds (valid v i) (live v k ∷ v .arc i k ∷ v .arc k i ∷ []) _ (exclude i k)
       else guard-finds (live v i) (live v k ∷ not (eqb i k) ∷ tooLate v i k ∷ not (v .arc k i) ∷ []) _ (order i k)
       else guard-finds (live v i) (live v k ∷ not (eqb i k) ∷ joined v i k ∷ not (v .arc i k) ∷ []) _ (join i k)

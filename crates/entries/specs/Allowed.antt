@@ -50,10 +50,10 @@ job n z t =
     (omega whole, natural)
 
 -- a test that its check did not find broken
-passes : {t : Bool} {P : Type 0} → Decides t P → not t ≡ false → P
-passes {t} d e = d .yes (not-false t e)
+unbroken : {t : Bool} {P : Type 0} → Decides t P → not t ≡ false → P
+unbroken {t} d e = d .yes (not-false t e)
 
--- what passes check 2 is about jobs of the board
+-- what unbroken check 2 is about jobs of the board
 known-job : (n : ℕ) (j : ℤ) (cs : List Check) → gate (jobCheck n j ∷ cs) ≡ none → number j < n
 known-job n j cs g = job n j (not-false _ (passed (jobCheck n j) cs g .0)) .0
 
@@ -82,10 +82,10 @@ gate-allows n (addition l e d m) g =
     let (time, g3) = passed _ _ g2 in
     let (window, g4) = passed _ _ g3 in
     let (mk, g5) = passed _ _ g4 in
-    let (low, high) = passes (decides-between (pos 0) (pos 1) m) mk in
-    let (te, td) = passes (decides-time e and decides-time d) time in (
+    let (low, high) = unbroken (decides-between (pos 0) (pos 1) m) mk in
+    let (te, td) = unbroken (decides-time e and decides-time d) time in (
       omega (arith, leb-false jobLimit n full),
-      record { length = passes (decides-length l) len; earliest = te; latest = td },
+      record { length = unbroken (decides-length l) len; earliest = te; latest = td },
       omega (whole, none-below m (omega whole)),
     )
 gate-allows n (other s) g = known n s g

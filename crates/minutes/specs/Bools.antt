@@ -1,6 +1,6 @@
 -- What the outcome of a Boolean test tells, and what a clash of constructors does.
 use mathlib.Core.Path.{_≡_, refl, sym}
-use mathlib.Core.Bool.{Bool, true, false, _&&_}
+use mathlib.Core.Bool.{Bool, true, false, cond, _&&_}
 use Prim.Native.Nat.{ℕ}
 use native.Mathlib.Omega.{arith}
 
@@ -32,3 +32,8 @@ pub same-tests : (a b : Bool) → (a ≡ true → b ≡ true) → (b ≡ true �
 same-tests true b f g = sym (f refl)
 same-tests false true f g = g refl
 same-tests false false f g = refl
+
+-- a test decides which of two values is taken
+pub by-test : {A : Type 0} (P : A → Type 0) (t : Bool) (x y : A) → (t ≡ true → P x) → (t ≡ false → P y) → P (cond t x y)
+by-test P true x y p q = p refl
+by-test P false x y p q = q refl

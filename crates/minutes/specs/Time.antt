@@ -1,10 +1,10 @@
 -- When a time, the sum of two or their difference fits an i32, and the greater and the lesser of two times.
-use mathlib.Core.Path.{_≡_, refl}
-use mathlib.Core.Bool.{Bool, true, false, cond}
+use mathlib.Core.Bool.{cond}
 use lib.IntN.{ℤ, pos, negsuc, negℤ, _+ℤ_, _-ℤ_}
 use lib.Signed.{ltZ, _≤ℤ_}
 use mir.Syntax.{w32}
 use mir.Val.{SFits}
+use Rattle.minutes.specs.Bools.{by-test}
 use Rattle.minutes.specs.Linear.{whole, plus, minus}
 
 pub fits : (z : ℤ) → negsuc 2147483647 ≤ℤ z → z ≤ℤ pos 2147483647 → SFits w32 z
@@ -28,43 +28,19 @@ abbrev pub lesser : ℤ → ℤ → ℤ
 lesser a b = cond (ltZ a b) a b
 
 pub greater-left : (a b : ℤ) → a ≤ℤ greater a b
-greater-left a b = go (ltZ a b) refl
-  where
-    go : (t : Bool) → ltZ a b ≡ t → a ≤ℤ cond t b a
-    go true e = omega whole
-    go false e = omega whole
+greater-left a b = by-test (λ x. a ≤ℤ x) (ltZ a b) b a (λ e. omega whole) (λ e. omega whole)
 
 pub greater-right : (a b : ℤ) → b ≤ℤ greater a b
-greater-right a b = go (ltZ a b) refl
-  where
-    go : (t : Bool) → ltZ a b ≡ t → b ≤ℤ cond t b a
-    go true e = omega whole
-    go false e = omega whole
+greater-right a b = by-test (λ x. b ≤ℤ x) (ltZ a b) b a (λ e. omega whole) (λ e. omega whole)
 
 pub greater-least : (a b c : ℤ) → a ≤ℤ c → b ≤ℤ c → greater a b ≤ℤ c
-greater-least a b c h l = go (ltZ a b)
-  where
-    go : (t : Bool) → cond t b a ≤ℤ c
-    go true = l
-    go false = h
+greater-least a b c h l = by-test (λ x. x ≤ℤ c) (ltZ a b) b a (λ e. l) (λ e. h)
 
 pub lesser-left : (a b : ℤ) → lesser a b ≤ℤ a
-lesser-left a b = go (ltZ a b) refl
-  where
-    go : (t : Bool) → ltZ a b ≡ t → cond t a b ≤ℤ a
-    go true e = omega whole
-    go false e = omega whole
+lesser-left a b = by-test (λ x. x ≤ℤ a) (ltZ a b) a b (λ e. omega whole) (λ e. omega whole)
 
 pub lesser-right : (a b : ℤ) → lesser a b ≤ℤ b
-lesser-right a b = go (ltZ a b) refl
-  where
-    go : (t : Bool) → ltZ a b ≡ t → cond t a b ≤ℤ b
-    go true e = omega whole
-    go false e = omega whole
+lesser-right a b = by-test (λ x. x ≤ℤ b) (ltZ a b) a b (λ e. omega whole) (λ e. omega whole)
 
 pub lesser-greatest : (a b c : ℤ) → c ≤ℤ a → c ≤ℤ b → c ≤ℤ lesser a b
-lesser-greatest a b c h l = go (ltZ a b)
-  where
-    go : (t : Bool) → c ≤ℤ cond t a b
-    go true = h
-    go false = l
+lesser-greatest a b c h l = by-test (λ x. c ≤ℤ x) (ltZ a b) a b (λ e. h) (λ e. l)

@@ -17,9 +17,9 @@ use Rattle.board.specs.Paper.Refusals.{numberOf}
 use Rattle.board.specs.Paper.View.{rowOf}
 use Rattle.board.specs.Tests.Live.{live, valid}
 use Rattle.board.specs.Update.Updates.{exclude, tighten, update, _andThen_}
-use Rattle.closure.specs.Find.{guard, _orElse_, first, any, beyond, cramped, tooLate, joined, pushers, pushed, push, next, find}
+use Rattle.closure.specs.Find.{guard, _orElse_, first, any, beyond, tooLate, joined, pushers, pushed, push, next, find}
 use Rattle.closure.specs.Closing.{close, closure}
-use Rattle.closure.specs.Check.{settled, passes}
+use Rattle.closure.specs.Check.{nothingLeft, passes}
 use Rattle.entries.specs.declared.Answer.{Answer}
 use Rattle.entries.specs.declared.Answer.the-variants as Answers
 use Rattle.entries.specs.declared.RowAnswer.{RowAnswer}
@@ -155,5 +155,5 @@ table = M1 ∷ M2 ∷ M3 ∷ M4 ∷ M5 ∷ M6 ∷ M7 ∷ M8 ∷ M9 ∷ M10 ∷ M
 
 -- every line of every example is true
 pub examples-hold : all-true table ≡ true
-unfolding eqZ bit with without union difference singleton sum all implies between isTime isLength isZero fits isZeroRow full shape holdsJob holdsNothing joinable agrees withinLimits live valid exclude tighten update _andThen_ guard _orElse_ first any beyond cramped tooLate joined pushers pushed push next find close closure settled passes gate updateAll raw closureWith enter row pair
+unfolding eqZ bit with without union difference singleton sum all implies between isTime isLength isZero fits isZeroRow full shape holdsJob holdsNothing joinable agrees withinLimits live valid exclude tighten update _andThen_ guard _orElse_ first any beyond tooLate joined pushers pushed push next find close closure nothingLeft passes gate updateAll raw closureWith enter row pair
 examples-hold = refl

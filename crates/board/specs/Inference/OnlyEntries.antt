@@ -15,12 +15,10 @@ use Rattle.board.specs.Inference.Infers.{Infers, r1, r2, r3, r45, r6, Ob
 use Rattle.board.specs.Paper.Entries.{Entries, Shown, Shows, _⊑_, Closed, Least}
 use Rattle.board.specs.Order.Laws.{valid-up}
 use Rattle.board.specs.Order.Tabulated.{closed-board, least-below}
+use Rattle.board.specs.Update.Updates.{marked}
+use Rattle.board.specs.Update.Rows.{marked-fits}
 use Rattle.board.specs.Update.Limits.{live-row}
 use Rattle.board.specs.Inference.Agrees.{rules-obey}
-
--- r with another mark
-abbrev marked : ℕ → Row → Row
-marked m r = record { mark = m; length = r .length; earliest = r .earliest; latest = r .latest }
 
 -- v with the mark of job j taken back to undecided
 abbrev undecided : View → ℕ → View
@@ -118,7 +116,7 @@ module _ (v : View) (j : ℕ) (valid : Valid v j) where
       taken-back k e =
           let fits = limits .rows k .live (omega arith) λ m. omega (arith, rw e at (valid .1)) in
           live-row (v .jobs) k (marked 0 (v .row k)) (omega arith) (omega arith)
-          (record { length = fits .length; earliest = fits .earliest; latest = fits .latest })
+          (marked-fits 0 (v .row k) fits)
 
 -- a job that no entry states valid is not valid on the least closed board
 pub least-entered : (es : Entries) (b : Board) → Least es b

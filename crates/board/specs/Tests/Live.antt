@@ -1,17 +1,23 @@
--- The tests of live and of valid, as the code makes them, and what they decide.
+-- The tests of live, of valid and of R6, as the code makes them, and what they decide.
 use mathlib.Core.Path.{_≡_}
 use mathlib.Core.Bool.{Bool, true, not, _&&_}
 use Prim.Native.Nat.{ℕ}
+use lib.IntN.{_+ℤ_}
+use lib.Signed.{leZ}
 use lib.Dec.{eqb, ltb}
 use borrow.Author.Tests.{ltb-true, lt-ltb, eqb-true, eq-eqb, eqb-false, ne-eqb, not-true}
 use Rattle.minutes.specs.Bools.{and-parts}
-use Rattle.board.specs.Paper.View.{View, Live, Valid}
+use Rattle.board.specs.Paper.View.{Row, View, Live, Valid}
 
 unfoldable pub live : View → ℕ → Bool
 live v j = ltb j (v .jobs) && not (eqb (v .row j .mark) 2)
 
 unfoldable pub valid : View → ℕ → Bool
 valid v j = ltb j (v .jobs) && eqb (v .row j .mark) 1
+
+-- R6: does the job fit its window?
+abbrev pub roomy : Row → Bool
+roomy r = leZ (r .earliest +ℤ r .length) (r .latest)
 
 module _ (v : View) (j : ℕ) where
   pub live-yes : live v j ≡ true → Live v j

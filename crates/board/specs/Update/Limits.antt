@@ -8,7 +8,7 @@ use Rattle.board.specs.declared.Board.{Board}
 use Rattle.board.specs.Paper.View.{Row, Live, Arc, rowOf, view}
 use Rattle.board.specs.Paper.Limits.{jobLimit, Fits, zeroRow, RowLimits, Shape, Within}
 use Rattle.board.specs.Update.Updates.{store, link, invalidate}
-use Rattle.board.specs.Update.Stores.{place, stored, linked-twice, linked-arcs, cut-twice, cut-old}
+use Rattle.board.specs.Update.Stores.{place, stored, linked-twice, linked-arcs, unlinked-twice, unlinked-old}
 
 -- ---- rows within the limits: of a live job, of an invalid one, and of a place without a job
 
@@ -88,7 +88,7 @@ module _ (b : Board) (within : Within b) where
         record {
           shape = invalidate-shape;
           limits = record { jobs = within .limits .jobs; rows = rows; arcs = arcs };
-          twice = cut-twice b within j job;
+          twice = unlinked-twice b within j job;
           tally = within .tally;
         }
       where
@@ -104,7 +104,7 @@ module _ (b : Board) (within : Within b) where
         arcs : (x y : ℕ) → Arc (view (invalidate b j)) x y
             → Live (view (invalidate b j)) x × Live (view (invalidate b j)) y × (x ≢ y)
         arcs x y a =
-            let (old, nx, ny) = cut-old b within j job x y a in
+            let (old, nx, ny) = unlinked-old b within j job x y a in
             let (lx, ly, ne) = within .limits .arcs x y old in
             (live x lx nx, live y ly ny, ne)
 

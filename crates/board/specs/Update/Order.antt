@@ -11,7 +11,7 @@ use Rattle.board.specs.Paper.Limits.{zeroRow, Within}
 use Rattle.board.specs.Paper.Entries.{Shown, Drawn, drawn, _⊑_}
 use Rattle.board.specs.Order.Laws.{shown-refl, shown-invalid}
 use Rattle.board.specs.Update.Updates.{store, link, invalidate}
-use Rattle.board.specs.Update.Stores.{place, stored-same, stored, linked-old, linked-arcs, cut-old, cut-kept}
+use Rattle.board.specs.Update.Stores.{place, stored-same, stored, linked-old, linked-arcs, unlinked-old, unlinked-kept}
 
 -- the facts that a view counts as entries are its arcs
 pub by-arcs : (v w : View) → ((i k : ℕ) → Arc v i k → Holds w (is-arc i k)) → (f : Fact) → Drawn v f → Holds w f
@@ -52,7 +52,7 @@ module _ (b : Board) (within : Within b) where
           rows = store-above (zeroRow 2) (shown-invalid (rowOf b j) (zeroRow 2) m refl) .rows;
           facts = by-arcs (view b) (view (invalidate b j)) λ x y a.
               let (lx, ly, _) = within .limits .arcs x y a in
-              (lx .0, ly .0, λ lx ly. cut-kept b within j job x y a (apart x lx) (apart y ly));
+              (lx .0, ly .0, λ lx ly. unlinked-kept b within j job x y a (apart x lx) (apart y ly));
         }
       where
         apart : (x : ℕ) → Live (view (invalidate b j)) x → x ≢ j
@@ -63,7 +63,7 @@ module _ (b : Board) (within : Within b) where
         record {
           jobs = up .jobs;
           rows = store-least (zeroRow 2) w up (shown-invalid (zeroRow 2) (w .row j) (λ e. omega arith) (h .1)) .rows;
-          facts = by-arcs (view (invalidate b j)) w λ x y a. up .facts (is-arc x y) (drawn x y (cut-old b within j job x y a .0));
+          facts = by-arcs (view (invalidate b j)) w λ x y a. up .facts (is-arc x y) (drawn x y (unlinked-old b within j job x y a .0));
         }
 
   module _ (i k : ℕ) (job-i : i < b .jobs) (job-k : k < b .jobs) where

@@ -3,6 +3,7 @@
 use mathlib.Core.Path.{_≡_, refl}
 use mathlib.Core.Logic.{_≢_}
 use mathlib.Core.Bool.{true, false}
+use Prim.Native.Nat.{ℕ}
 use native.Mathlib.Omega.{arith}
 use lib.IntN.{ℤ, negℤ, _+ℤ_}
 use lib.Signed.{_≤ℤ_, _<ℤ_}
@@ -10,7 +11,8 @@ use Rattle.minutes.specs.Linear.{whole, plus, minus}
 use Rattle.board.specs.Paper.View.{Row, Side, early, late, bound}
 use Rattle.board.specs.Paper.Limits.{Fits}
 use Rattle.board.specs.Paper.Entries.{Shown}
-use Rattle.board.specs.Update.Updates.{raised, validated, roomy}
+use Rattle.board.specs.Tests.Live.{roomy}
+use Rattle.board.specs.Update.Updates.{raised, marked}
 
 pub raised-mark : (s : Side) (z : ℤ) (r : Row) → raised s z r .mark ≡ r .mark
 raised-mark early z r = refl
@@ -67,8 +69,8 @@ raised-short late z r t cramped up l h =
     omega
     (whole, up .earliest l, up .length l, plus (r .earliest) (r .length), plus (t .earliest) (t .length), minus z, minus (t .latest))
 
-pub validated-above : (r : Row) → r .mark ≢ 2 → Shown r (validated r)
-validated-above r m =
+pub valid-above : (r : Row) → r .mark ≢ 2 → Shown r (marked 1 r)
+valid-above r m =
     record {
       valid = λ _. refl;
       invalid = λ e. absurd (m e);
@@ -77,9 +79,9 @@ validated-above r m =
       latest = λ _. omega whole;
     }
 
-pub validated-least : (r t : Row) → Shown r t → t .mark ≡ 1 → Shown (validated r) t
-validated-least r t up e =
+pub valid-least : (r t : Row) → Shown r t → t .mark ≡ 1 → Shown (marked 1 r) t
+valid-least r t up e =
     record { valid = λ _. e; invalid = λ n. absurd (omega arith); length = up .length; earliest = up .earliest; latest = up .latest }
 
-pub validated-fits : (r : Row) → Fits r → Fits (validated r)
-validated-fits r fits = record { length = fits .length; earliest = fits .earliest; latest = fits .latest }
+pub marked-fits : (m : ℕ) (r : Row) → Fits r → Fits (marked m r)
+marked-fits m r fits = record { length = fits .length; earliest = fits .earliest; latest = fits .latest }

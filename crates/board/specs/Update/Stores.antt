@@ -59,9 +59,9 @@ module _ (b : Board) (shape : Shape b) (j : ℕ) (r : Row) (inside : j < jobLimi
 -- ---- words
 
 -- member k put into word i
-entered : (words : List ℕ) (i k : ℕ) → i < length words → (x y : ℕ)
+inserted : (words : List ℕ) (i k : ℕ) → i < length words → (x y : ℕ)
     → bit (getD (set words i (with (getD words i 0) k)) x 0) y ≡ (bit (getD words x 0) y || (eqb i x && eqb k y))
-entered words i k inside x y = go (ℕ-discrete x i)
+inserted words i k inside x y = go (ℕ-discrete x i)
   where
     go : Dec (x ≡ i) → bit (getD (set words i (with (getD words i 0) k)) x 0) y ≡ (bit (getD words x 0) y || (eqb i x && eqb k y))
     go (yes e) = rw (e, getD-set-same, eq-eqb i i refl) (bit-with (getD words i 0) k y)
@@ -101,11 +101,11 @@ module _ (b : Board) (within : Within b) where
 
   module _ (i k : ℕ) (job-i : i < b .jobs) (job-k : k < b .jobs) where
     pub linked : (x y : ℕ) → arcOf (link b i k) x y ≡ (arcOf b x y || (eqb i x && eqb k y))
-    linked = entered (b .after) i k (omega (arith, within .limits .jobs, within .shape .after))
+    linked = inserted (b .after) i k (omega (arith, within .limits .jobs, within .shape .after))
 
     pub linked-twice : (x y : ℕ) → arcIntoOf (link b i k) y x ≡ arcOf (link b i k) x y
     linked-twice x y =
-        entered (b .before) k i (omega (arith, within .limits .jobs, within .shape .before)) y x
+        inserted (b .before) k i (omega (arith, within .limits .jobs, within .shape .before)) y x
         ∙ rw (within .twice x y, and-comm (eqb k y) (eqb i x)) (sym (linked x y))
 
     pub linked-new : Arc (view (link b i k)) i k
@@ -126,24 +126,24 @@ module _ (b : Board) (within : Within b) where
             subst₂ P (eqb-true i x p) (eqb-true k y q) new
 
   module _ (j : ℕ) (job : j < b .jobs) where
-    pub cut : (x y : ℕ) → arcOf (invalidate b j) x y ≡ (arcOf b x y && (not (eqb j x) && not (eqb j y)))
-    cut =
+    pub unlinked : (x y : ℕ) → arcOf (invalidate b j) x y ≡ (arcOf b x y && (not (eqb j x) && not (eqb j y)))
+    unlinked =
         isolated (b .after) j (place b within j job) (within .shape .after) λ x.
         narrow (getD (b .after) x 0) λ y e. within .limits .arcs x y e .1 .0
 
-    pub cut-twice : (x y : ℕ) → arcIntoOf (invalidate b j) y x ≡ arcOf (invalidate b j) x y
-    cut-twice x y =
+    pub unlinked-twice : (x y : ℕ) → arcIntoOf (invalidate b j) y x ≡ arcOf (invalidate b j) x y
+    unlinked-twice x y =
         isolated (b .before) j (place b within j job) (within .shape .before) into-narrow y x
-        ∙ rw (within .twice x y, and-comm (not (eqb j y)) (not (eqb j x))) (sym (cut x y))
+        ∙ rw (within .twice x y, and-comm (not (eqb j y)) (not (eqb j x))) (sym (unlinked x y))
       where
         into-narrow : (y : ℕ) → getD (b .before) y 0 < 2 ^ jobLimit
         into-narrow y = narrow (getD (b .before) y 0) λ x e. within .limits .arcs x y (sym (within .twice x y) ∙ e) .0 .0
 
-    pub cut-old : (x y : ℕ) → Arc (view (invalidate b j)) x y → Arc (view b) x y × (x ≢ j) × (y ≢ j)
-    cut-old x y e =
-        let (a, h) = and-parts (arcOf b x y) (not (eqb j x) && not (eqb j y)) (sym (cut x y) ∙ e) in
+    pub unlinked-old : (x y : ℕ) → Arc (view (invalidate b j)) x y → Arc (view b) x y × (x ≢ j) × (y ≢ j)
+    unlinked-old x y e =
+        let (a, h) = and-parts (arcOf b x y) (not (eqb j x) && not (eqb j y)) (sym (unlinked x y) ∙ e) in
         let (p, q) = and-parts (not (eqb j x)) (not (eqb j y)) h in
         (a, λ n. eqb-false j x (not-true _ p) (sym n), λ n. eqb-false j y (not-true _ q) (sym n))
 
-    pub cut-kept : (x y : ℕ) → Arc (view b) x y → x ≢ j → y ≢ j → Arc (view (invalidate b j)) x y
-    cut-kept x y e nx ny = cut x y ∙ rw (e, ne-eqb j x (λ n. nx (sym n)), ne-eqb j y (λ n. ny (sym n)))
+    pub unlinked-kept : (x y : ℕ) → Arc (view b) x y → x ≢ j → y ≢ j → Arc (view (invalidate b j)) x y
+    unlinked-kept x y e nx ny = unlinked x y ∙ rw (e, ne-eqb j x (λ n. nx (sym n)), ne-eqb j y (λ n. ny (sym n)))

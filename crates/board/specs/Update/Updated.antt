@@ -2,7 +2,7 @@
 -- obeys the rules shows the fact.
 use mathlib.Core.Path.{_≡_, refl}
 use mathlib.Core.Logic.{_≢_}
-use mathlib.Core.Bool.{Bool, true, false, cond, _&&_}
+use mathlib.Core.Bool.{true, false, cond, _&&_}
 use mathlib.Core.Option.{none, some}
 use Prim.Native.Nat.{ℕ, _<_, _≤_}
 use native.Mathlib.Omega.{arith}
@@ -10,7 +10,7 @@ use lib.Dec.{eqb}
 use lib.IntN.{ℤ}
 use lib.Signed.{_≤ℤ_, ltZ}
 use borrow.Author.Tests.{eqb-true, eqb-false}
-use Rattle.minutes.specs.Bools.{refuted, and-parts, and-both}
+use Rattle.minutes.specs.Bools.{by-test, refuted, and-parts, and-both}
 use Rattle.minutes.specs.Linear.{whole}
 use Rattle.board.specs.declared.Board.{Board}
 use Rattle.board.specs.Paper.View.{Row, View, Live, Invalid, Side, bound, rowOf, view}
@@ -19,19 +19,14 @@ use Rattle.board.specs.Inference.Infers.{Obeys, r6}
 use Rattle.board.specs.Paper.Limits.{Fits, Within}
 use Rattle.board.specs.Paper.Entries.{Shown, _⊑_}
 use Rattle.board.specs.Inference.Forced.{invalid-unless}
-use Rattle.board.specs.Tests.Live.{live, live-yes, live-show}
-use Rattle.board.specs.Update.Updates.{store, link, invalidate, raised, validated, roomy, exclude, tighten, update}
+use Rattle.board.specs.Tests.Live.{live, live-yes, live-show, roomy}
+use Rattle.board.specs.Update.Updates.{store, link, invalidate, raised, marked, exclude, tighten, update}
 use Rattle.board.specs.Update.Extension.{above-self, Extended, Updated}
 use Rattle.board.specs.Update.Compose.{extends-same}
 use Rattle.board.specs.Update.Stores.{linked-new}
 use Rattle.board.specs.Update.Limits.{store-within, invalidate-within, link-within}
-use Rattle.board.specs.Update.Rows.{raised-mark, raised-bound, raised-above, raised-least, raised-fits, raised-short, validated-above, validated-least, validated-fits}
+use Rattle.board.specs.Update.Rows.{raised-mark, raised-bound, raised-above, raised-least, raised-fits, raised-short, valid-above, valid-least, marked-fits}
 use Rattle.board.specs.Update.Order.{store-shows, store-above, store-least, invalidate-shows, invalidate-above, invalidate-least, link-above, link-least}
-
--- a test decides which of two values is taken
-by-test : {A : Type 0} (P : A → Type 0) (t : Bool) (x y : A) → (t ≡ true → P x) → (t ≡ false → P y) → P (cond t x y)
-by-test P true x y p q = p refl
-by-test P false x y p q = q refl
 
 module _ (b : Board) (within : Within b) where
   -- where the fact holds already, b is the least
@@ -152,7 +147,7 @@ module _ (b : Board) (within : Within b) where
       known : (live (view b) j && ltZ old z) ≡ false → Extended b (is-bound s j z) b
       known e = unchanged (is-bound s j z) (job, shows e)
   updated (is-valid j) job =
-      by-test (Updated b (is-valid j)) (eqb (r .mark) 2) none (some (store b j (validated r))) was-invalid was-live
+      by-test (Updated b (is-valid j)) (eqb (r .mark) 2) none (some (store b j (marked 1 r))) was-invalid was-live
     where
       r : Row
       r = rowOf b j
@@ -160,12 +155,12 @@ module _ (b : Board) (within : Within b) where
       was-invalid : eqb (r .mark) 2 ≡ true → Updated b (is-valid j) none
       was-invalid e w up _ h = omega (arith, up .rows j job .invalid (eqb-true (r .mark) 2 e), h .1)
 
-      was-live : eqb (r .mark) 2 ≡ false → Extended b (is-valid j) (store b j (validated r))
+      was-live : eqb (r .mark) 2 ≡ false → Extended b (is-valid j) (store b j (marked 1 r))
       was-live e =
           let m : r .mark ≢ 2 = eqb-false (r .mark) 2 e in
-          rewritten (is-valid j) j (validated r) job (omega arith)
-          (validated-fits r (within .limits .rows j .live job m))
-          (validated-above r m)
-          (job, store-shows b within j job (validated r) (λ t. t .mark ≡ 1) refl)
-          λ w up h. validated-least r (w .row j) (up .rows j job) (h .1)
+          rewritten (is-valid j) j (marked 1 r) job (omega arith)
+          (marked-fits 1 r (within .limits .rows j .live job m))
+          (valid-above r m)
+          (job, store-shows b within j job (marked 1 r) (λ t. t .mark ≡ 1) refl)
+          λ w up h. valid-least r (w .row j) (up .rows j job) (h .1)
   updated (is-invalid j) job = excluded j job

@@ -1,18 +1,18 @@
 -- Updates: the least board above b where one more fact holds, or none where a mark would have to change.
 -- Entries and rules go through the same four, and the window test R6 follows every raise at once.
-use mathlib.Core.Bool.{Bool, cond, _&&_}
+use mathlib.Core.Bool.{cond, _&&_}
 use mathlib.Core.List.{List, map}
 use mathlib.Core.Option.{Option, none, some}
 use Prim.Native.Nat.{ℕ, suc}
 use lib.Dec.{eqb}
-use lib.IntN.{ℤ, negℤ, _+ℤ_}
+use lib.IntN.{ℤ, negℤ}
 use lib.ListN.{getD, set}
-use lib.Signed.{leZ, ltZ}
+use lib.Signed.{ltZ}
 use Rattle.words.specs.Bit.{with, without}
 use Rattle.board.specs.declared.Board.{Board}
 use Rattle.board.specs.Paper.View.{Row, Side, early, late, bound, rowOf, view}
 use Rattle.board.specs.Paper.Facts.{Fact, is-arc, is-bound, is-valid, is-invalid}
-use Rattle.board.specs.Tests.Live.{live}
+use Rattle.board.specs.Tests.Live.{live, roomy}
 use Rattle.board.specs.Paper.Limits.{jobLimit, zeroRow}
 
 -- row j stored anew
@@ -67,12 +67,9 @@ abbrev pub raised : Side → ℤ → Row → Row
 raised early z r = record { mark = r .mark; length = r .length; earliest = z; latest = r .latest }
 raised late z r = record { mark = r .mark; length = r .length; earliest = r .earliest; latest = negℤ z }
 
-abbrev pub validated : Row → Row
-validated r = record { mark = 1; length = r .length; earliest = r .earliest; latest = r .latest }
-
--- does the job fit its window?
-abbrev pub roomy : Row → Bool
-roomy r = leZ (r .earliest +ℤ r .length) (r .latest)
+-- a row with another mark
+abbrev pub marked : ℕ → Row → Row
+marked m r = record { mark = m; length = r .length; earliest = r .earliest; latest = r .latest }
 
 -- "makes an undecided job invalid and a valid one a contradiction"
 unfoldable pub exclude : Board → ℕ → Option Board
@@ -85,7 +82,7 @@ unfoldable pub update : Board → Fact → Option Board
 update b (is-arc i k) = some (cond (live (view b) i && live (view b) k) (link b i k) b)
 update b (is-bound s j z) =
     cond (live (view b) j && ltZ (bound s (rowOf b j)) z) (tighten b j (raised s z (rowOf b j))) (some b)
-update b (is-valid j) = cond (eqb (rowOf b j .mark) 2) none (some (store b j (validated (rowOf b j))))
+update b (is-valid j) = cond (eqb (rowOf b j .mark) 2) none (some (store b j (marked 1 (rowOf b j))))
 update b (is-invalid j) = exclude b j
 
 -- a job added: its row at the first place without a job
