@@ -4,6 +4,7 @@ pub mod Limits
 pub mod Facts
 pub mod Rules
 pub mod Entries
+pub mod Closed
 pub mod Schedules
 pub mod Equality
 pub mod Refusals

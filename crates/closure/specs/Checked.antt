@@ -11,7 +11,8 @@ use Rattle.board.specs.Inference.Infers.{Obeys}
 use Rattle.board.specs.Paper.Limits.{Within}
 use Rattle.board.specs.Tests.Limits.{withinLimits}
 use Rattle.board.specs.Tests.LimitsDecided.{limits-yes, limits-show}
-use Rattle.board.specs.Paper.Entries.{Closed, Least, shown}
+use Rattle.board.specs.Paper.Entries.{shown}
+use Rattle.board.specs.Paper.Closed.{Closed, Least}
 use Rattle.board.specs.Order.Leastness.{handed-in}
 use Rattle.board.specs.Inference.Agrees.{obeys-rules, rules-obey}
 use Rattle.closure.specs.Find.{find}

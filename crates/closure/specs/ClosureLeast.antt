@@ -4,7 +4,8 @@ use mathlib.Core.Option.{Option, none, some}
 use Rattle.board.specs.declared.Board.{Board}
 use Rattle.board.specs.Paper.View.{view}
 use Rattle.board.specs.Paper.Limits.{Within}
-use Rattle.board.specs.Paper.Entries.{Entries, shown, Least, Contradiction}
+use Rattle.board.specs.Paper.Entries.{Entries, shown}
+use Rattle.board.specs.Paper.Closed.{Least, Contradiction}
 use Rattle.board.specs.Order.Leastness.{below-least, impossible-contradiction}
 use Rattle.board.specs.Inference.Agrees.{obeys-rules}
 use Rattle.closure.specs.Closing.{closure}

@@ -5,7 +5,7 @@ use mathlib.Core.Bool.{Bool, true, false, cond, not, _&&_}
 use mathlib.Core.List.{[], _∷_}
 use Prim.Native.Nat.{ℕ, suc, _+_, _≤_, _<_}
 use native.Mathlib.Omega.{arith}
-use lib.IntN.{ℤ, pos, negℤ, _-ℤ_}
+use lib.IntN.{ℤ, negℤ, _-ℤ_}
 use lib.Signed.{leZ, _≤ℤ_, _<ℤ_}
 use borrow.Author.Tests.{not-true}
 use Rattle.minutes.specs.Bools.{is-false, refuted}
@@ -15,7 +15,7 @@ use Rattle.board.specs.declared.Board.{Board}
 use Rattle.board.specs.Paper.View.{Row, View, Live, Invalid, Side, early, late, bound, view, rowOf, arcOf}
 use Rattle.board.specs.Paper.Facts.{Fact, is-arc, is-bound, Holds}
 use Rattle.board.specs.Inference.Infers.{Infers, r1, r2, r3, r45, r6}
-use Rattle.board.specs.Paper.Limits.{IsTime, Fits, Within, jobLimit}
+use Rattle.board.specs.Paper.Limits.{IsTime, Fits, Within, jobLimit, lastMinute}
 use Rattle.board.specs.Order.Laws.{live-down, arc-up, bound-up}
 use Rattle.board.specs.Update.Extension.{Above}
 use Rattle.board.specs.Tests.Live.{live, live-yes, live-show}
@@ -24,7 +24,7 @@ use Rattle.closure.specs.Search.{given}
 
 -- the minutes by which a bound can still rise
 abbrev slack : Side → Row → ℕ
-slack s r = above (pos 500000 -ℤ bound s r)
+slack s r = above (lastMinute -ℤ bound s r)
 
 abbrev room : Row → ℕ
 room r = slack early r + slack late r
@@ -60,12 +60,12 @@ module _ (v : View) (i k : ℕ) where
   lacking-show : Live v i → Live v k → v .arc i k ≡ false → lacking v i k ≡ true
   lacking-show li lk e = rw (live-show v i li, live-show v k lk, e)
 
--- slack s r ≡ 500000 - bound s r
-slack-is : (s : Side) (r : Row) → bound s r ≤ℤ pos 500000 → slack s r + above (bound s r) ≡ 500000 + below (bound s r)
+-- slack s r is what is left of 500000 above the bound
+slack-is : (s : Side) (r : Row) → bound s r ≤ℤ lastMinute → slack s r + above (bound s r) ≡ 500000 + below (bound s r)
 slack-is s r h =
     let z = bound s r in
-    let sum = plus (pos 500000) (negℤ z) in
-    omega (whole, none-below (pos 500000 -ℤ z) (omega (whole, sum, minus z)), sum, minus z)
+    let sum = plus lastMinute (negℤ z) in
+    omega (whole, none-below (lastMinute -ℤ z) (omega (whole, sum, minus z)), sum, minus z)
 
 bound-time : (s : Side) (r : Row) → Fits r → IsTime (bound s r)
 bound-time early r f = f .earliest

@@ -12,7 +12,8 @@ use Rattle.board.specs.declared.Refusal.{Refusal}
 use Rattle.board.specs.declared.Refusal.the-variants as Refused
 use Rattle.board.specs.Paper.View.{view}
 use Rattle.board.specs.Paper.Refusals.{numberOf}
-use Rattle.board.specs.Paper.Entries.{Entries, shown, Contradiction}
+use Rattle.board.specs.Paper.Entries.{Entries, shown}
+use Rattle.board.specs.Paper.Closed.{Contradiction}
 use Rattle.closure.specs.Check.{passes}
 use Rattle.entries.specs.declared.Answer.the-variants as Answers
 use Rattle.entries.specs.declared.Entered.{Entered}

@@ -3,7 +3,8 @@ use mathlib.Core.Path.{_∙_}
 use mathlib.Core.List.{List}
 use Rattle.board.specs.declared.Board.{Board}
 use Rattle.board.specs.Paper.View.{view}
-use Rattle.board.specs.Paper.Entries.{Entries, Closed, Least}
+use Rattle.board.specs.Paper.Entries.{Entries}
+use Rattle.board.specs.Paper.Closed.{Closed, Least}
 use Rattle.board.specs.Paper.Equality.{Same}
 use Rattle.board.specs.Order.Unique.{least-unique}
 use Rattle.entries.specs.Paper.Entry.{Entry, entries, SameEntries}

@@ -6,7 +6,8 @@ use Rattle.board.specs.declared.Board.{Board}
 use Rattle.board.specs.declared.Refusal.{Refusal}
 use Rattle.board.specs.declared.Refusal.the-variants as Refused
 use Rattle.board.specs.Paper.View.{view}
-use Rattle.board.specs.Paper.Entries.{Entries, shown, Least}
+use Rattle.board.specs.Paper.Entries.{Entries, shown}
+use Rattle.board.specs.Paper.Closed.{Least}
 use Rattle.board.specs.Order.Leastness.{Impossible, below-least, below-shown, impossible-contradiction}
 use Rattle.board.specs.Update.Extension.{above-self}
 use Rattle.board.specs.Inference.Agrees.{obeys-rules}

@@ -10,7 +10,8 @@ use Rattle.minutes.specs.Bools.{clash}
 use Rattle.board.specs.declared.Board.{Board}
 use Rattle.board.specs.Paper.View.{View, Invalid, Side, view}
 use Rattle.board.specs.Paper.Facts.{is-arc, is-bound, Holds}
-use Rattle.board.specs.Paper.Entries.{Entries, shown, _⊑_, Least}
+use Rattle.board.specs.Paper.Entries.{Entries, shown, _⊑_}
+use Rattle.board.specs.Paper.Closed.{Least}
 use Rattle.board.specs.Order.Laws.{⊑-trans, holds-up}
 use Rattle.board.specs.Order.Unique.{least-unique, equal-boards}
 use Rattle.closure.specs.Check.{passes}

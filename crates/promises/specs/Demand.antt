@@ -9,7 +9,7 @@ use Rattle.board.specs.declared.Refusal.the-variants as Refused
 use Rattle.board.specs.Paper.View.{view}
 use Rattle.board.specs.Paper.Limits.{tallyLimit, Within, emptyBoard}
 use Rattle.board.specs.Paper.Rules.{R1}
-use Rattle.board.specs.Paper.Entries.{Least, Contradiction}
+use Rattle.board.specs.Paper.Closed.{Least, Contradiction}
 use Rattle.board.specs.Paper.Schedules.{Placing, Schedule, Keeps}
 use Rattle.board.specs.Paper.Equality.{Same}
 use Rattle.closure.specs.Check.{passes}

@@ -10,7 +10,7 @@ use Rattle.board.specs.Paper.Limits.{tallyLimit, emptyBoard}
 use Rattle.board.specs.Tests.Empty.{within-empty, empty-below}
 use Rattle.board.specs.Inference.Infers.{Infers, r1, r2, r3, r45, r6}
 use Rattle.board.specs.Inference.Agrees.{obeys-rules}
-use Rattle.board.specs.Paper.Entries.{Contradiction}
+use Rattle.board.specs.Paper.Closed.{Contradiction}
 use Rattle.board.specs.Order.Leastness.{impossible-contradiction}
 use Rattle.board.specs.Paper.Schedules.{Placing, Schedule}
 use Rattle.board.specs.Schedule.Boards.{least-keeps, contradiction-unscheduled}

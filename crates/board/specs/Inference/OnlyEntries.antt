@@ -12,7 +12,8 @@ use Rattle.board.specs.Paper.View.{Row, View, Live, Valid, Side, early, 
 use Rattle.board.specs.Paper.Facts.{Fact, is-arc, is-bound, is-valid, is-invalid, Holds}
 use Rattle.board.specs.Paper.Limits.{RowLimits, Limited}
 use Rattle.board.specs.Inference.Infers.{Infers, r1, r2, r3, r45, r6, Obeys}
-use Rattle.board.specs.Paper.Entries.{Entries, Shown, Shows, _⊑_, Closed, Least}
+use Rattle.board.specs.Paper.Entries.{Entries, Shown, Shows, _⊑_}
+use Rattle.board.specs.Paper.Closed.{Closed, Least}
 use Rattle.board.specs.Order.Laws.{valid-up}
 use Rattle.board.specs.Order.Tabulated.{closed-board, least-below}
 use Rattle.board.specs.Update.Updates.{marked}

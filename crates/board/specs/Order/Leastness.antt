@@ -6,7 +6,8 @@ use Rattle.board.specs.Paper.View.{View, view}
 use Rattle.board.specs.Paper.Rules.{Rules}
 use Rattle.board.specs.Inference.Infers.{Obeys}
 use Rattle.board.specs.Paper.Limits.{Within}
-use Rattle.board.specs.Paper.Entries.{Entries, AtLeast, shown, _⊑_, Closed, Least, Contradiction}
+use Rattle.board.specs.Paper.Entries.{Entries, AtLeast, shown, _⊑_}
+use Rattle.board.specs.Paper.Closed.{Closed, Least, Contradiction}
 use Rattle.board.specs.Order.Laws.{⊑-refl}
 use Rattle.board.specs.Inference.Agrees.{rules-obey}
 

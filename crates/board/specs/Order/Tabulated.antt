@@ -14,7 +14,8 @@ use Rattle.words.specs.BitLaws.{bit-zero, bit-ext, bit-setOf}
 use Rattle.board.specs.declared.Board.{Board}
 use Rattle.board.specs.Paper.View.{Row, View, Arc, view, arcOf, arcIntoOf}
 use Rattle.board.specs.Paper.Limits.{jobLimit, tallyLimit, zeroRow, Limited, Shape, Within}
-use Rattle.board.specs.Paper.Entries.{Entries, Shows, _⊑_, Closed, Least}
+use Rattle.board.specs.Paper.Entries.{Entries, Shows, _⊑_}
+use Rattle.board.specs.Paper.Closed.{Closed, Least}
 use Rattle.board.specs.Inference.Infers.{Obeys}
 use Rattle.board.specs.Inference.Agrees.{obeys-rules}
 

@@ -14,7 +14,8 @@ use Rattle.board.specs.declared.Board.{Board}
 use Rattle.board.specs.Paper.View.{Row, Live, Arc, view, rowOf, arcOf}
 use Rattle.board.specs.Paper.Limits.{Within}
 use Rattle.board.specs.Paper.Equality.{Same, EqualBoards}
-use Rattle.board.specs.Paper.Entries.{Entries, Shown, _⊑_, Least}
+use Rattle.board.specs.Paper.Entries.{Entries, Shown, _⊑_}
+use Rattle.board.specs.Paper.Closed.{Least}
 use Rattle.board.specs.Order.Laws.{live-down, arc-up}
 
 -- two live rows that show each other are equal

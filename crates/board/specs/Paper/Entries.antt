@@ -1,13 +1,11 @@
--- Entries, and what it means that a board shows them; the order of boards; closed, least, contradiction.
+-- Entries, what it means that a board shows them, and the order of boards by how much they show.
 use mathlib.Core.Path.{_≡_}
 use mathlib.Core.Logic.{_≢_}
 use Prim.Native.Nat.{ℕ, _<_, _≤_}
 use lib.Signed.{_≤ℤ_}
-use Rattle.board.specs.declared.Board.{Board}
-use Rattle.board.specs.Paper.View.{Row, View, Arc, view}
+use Rattle.board.specs.Paper.View.{Row, View, Arc}
 use Rattle.board.specs.Paper.Facts.{Fact, is-arc, Holds, Known}
-use Rattle.board.specs.Paper.Rules.{Rules}
-use Rattle.board.specs.Paper.Limits.{jobLimit, Fits, Within}
+use Rattle.board.specs.Paper.Limits.{jobLimit, Fits}
 
 -- The jobs added, in order, each with its length, window and mark, and a set of facts stated of them.
 pub record Entries : Type 1 where
@@ -56,18 +54,3 @@ shown v = record { jobs = v .jobs; row = v .row; facts = Drawn v }
 infix 40 _⊑_
 abbrev pub _⊑_ : View → View → Type 0
 v ⊑ w = AtLeast (shown v) w
-
--- "A board is closed over the entries when it shows them and also" keeps R1 to R6.
-pub record Closed (es : Entries) (b : Board) : Type 0 where
-  pub within : Within b
-  pub shows : Shows es (view b)
-  pub rules : Rules (view b)
-
--- The least closed board "is that closed board whose arcs, raised E, lowered D and invalid marks are in every closed board".
-pub record Least (es : Entries) (b : Board) : Type 0 where
-  pub closed : Closed es b
-  pub least : (c : Board) → Closed es c → view b ⊑ view c
-
--- "If no closed board exists, the closure is a contradiction."
-abbrev pub Contradiction : Entries → Type 0
-Contradiction es = (c : Board) → Closed es c → ⊥

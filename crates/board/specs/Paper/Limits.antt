@@ -16,14 +16,26 @@ abbrev pub tallyLimit : ℕ
 tallyLimit = 1000000
 
 -- "Times are whole minutes, -500000 to 500000."
+abbrev pub firstMinute : ℤ
+firstMinute = negsuc 499999
+
+abbrev pub lastMinute : ℤ
+lastMinute = pos 500000
+
 pub record IsTime (z : ℤ) : Type 0 where
-  pub low : negsuc 499999 ≤ℤ z
-  pub high : z ≤ℤ pos 500000
+  pub low : firstMinute ≤ℤ z
+  pub high : z ≤ℤ lastMinute
 
 -- "A job has a length (1 to 10000; 0 once invalid)"
+abbrev pub shortest : ℤ
+shortest = pos 1
+
+abbrev pub longest : ℤ
+longest = pos 10000
+
 pub record IsLength (z : ℤ) : Type 0 where
-  pub low : pos 1 ≤ℤ z
-  pub high : z ≤ℤ pos 10000
+  pub low : shortest ≤ℤ z
+  pub high : z ≤ℤ longest
 
 -- a row of a live job
 pub record Fits (r : Row) : Type 0 where

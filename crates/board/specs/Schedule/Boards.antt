@@ -12,7 +12,8 @@ use Rattle.minutes.specs.Linear.{whole, plus}
 use Rattle.board.specs.declared.Board.{Board}
 use Rattle.board.specs.Paper.View.{Live, Arc, view}
 use Rattle.board.specs.Paper.Limits.{Fits, RowLimits, Limited}
-use Rattle.board.specs.Paper.Entries.{Entries, Admissible, Closed, Least, Contradiction}
+use Rattle.board.specs.Paper.Entries.{Entries, Admissible}
+use Rattle.board.specs.Paper.Closed.{Closed, Least, Contradiction}
 use Rattle.board.specs.Paper.Schedules.{Placing, Placed, Schedule, Keeps}
 use Rattle.board.specs.Order.Tabulated.{boardOf, closed-board, least-below}
 use Rattle.board.specs.Update.Limits.{live-row, invalid-row, blank-row}

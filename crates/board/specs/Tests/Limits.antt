@@ -4,13 +4,13 @@ use mathlib.Core.Bool.{Bool, true, false, not, _&&_, Bool·beq}
 use mathlib.Core.List.{List}
 use Prim.Native.Nat.{ℕ, zero, suc, _^_}
 use lib.Dec.{eqb, leb, ltb}
-use lib.IntN.{ℤ, pos, negsuc}
+use lib.IntN.{ℤ, pos}
 use lib.ListN.{length, getD}
 use lib.Signed.{leZ}
 use Rattle.minutes.specs.Linear.{eqZ}
 use Rattle.board.specs.declared.Board.{Board}
 use Rattle.board.specs.Paper.View.{Row, view, rowOf, arcOf, arcIntoOf}
-use Rattle.board.specs.Paper.Limits.{jobLimit, tallyLimit}
+use Rattle.board.specs.Paper.Limits.{jobLimit, tallyLimit, firstMinute, lastMinute, shortest, longest}
 use Rattle.board.specs.Tests.Live.{live}
 
 -- does the test hold of every number below n?
@@ -28,10 +28,10 @@ between low high z = leZ low z && leZ z high
 
 -- the limits of times and lengths, and the number 0
 unfoldable pub isTime : ℤ → Bool
-isTime z = between (negsuc 499999) (pos 500000) z
+isTime z = between firstMinute lastMinute z
 
 unfoldable pub isLength : ℤ → Bool
-isLength z = between (pos 1) (pos 10000) z
+isLength z = between shortest longest z
 
 unfoldable pub isZero : ℤ → Bool
 isZero z = eqZ z (pos 0)

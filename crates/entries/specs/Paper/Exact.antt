@@ -5,7 +5,8 @@ use mathlib.Core.Option.{none, some}
 use Rattle.board.specs.declared.Board.{Board}
 use Rattle.board.specs.declared.Refusal.{Refusal}
 use Rattle.board.specs.declared.Refusal.the-variants as Refused
-use Rattle.board.specs.Paper.Entries.{Entries, Least, Contradiction}
+use Rattle.board.specs.Paper.Entries.{Entries}
+use Rattle.board.specs.Paper.Closed.{Least, Contradiction}
 use Rattle.entries.specs.declared.Entered.{Entered}
 use Rattle.entries.specs.Paper.Entry.{Entry, withEntry}
 use Rattle.entries.specs.Paper.Gate.{checks, gate}
