@@ -15,3 +15,4 @@ pub mod Orderless
 pub mod Exactly
 pub mod Unaltered
 pub mod HandedIn
+pub mod Boundaries

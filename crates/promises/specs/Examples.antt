@@ -1,5 +1,5 @@
--- "Twelve marked examples": M1 to M12 and the paper's whole case without its plan, as one table, computed as a whole through
--- `enter`, `row` and `pair`.
+-- "Twelve marked examples": M1 to M12, the paper's whole case without its plan, and what it says of cuts and marks, as one
+-- table, computed as a whole through `enter`, `row` and `pair`.
 use mathlib.Core.Path.{_≡_, refl}
 use mathlib.Core.Bool.{Bool, true, false, _&&_}
 use mathlib.Core.List.{List, [], _∷_, _++_}
@@ -43,6 +43,9 @@ arrow a b = other (arc (pos a) (pos b))
 
 abbrev pub made-valid : ℕ → Entry
 made-valid j = other (mark (pos j) (pos 1))
+
+abbrev pub cutTo : ℕ → ℕ → ℕ → Entry
+cutTo j e d = other (cut (pos j) (pos e) (pos d))
 
 -- A line of an example: an entry that is accepted, or refused with a number; or something said of the board after it.
 pub data Line : Type 0 where
@@ -147,11 +150,21 @@ abbrev pub wholeCase : List Line
 wholeCase =
     enters (job 30 0 100) ∷ enters (undecided 40 0 100) ∷ enters (job 20 10 60) ∷ enters (arrow 0 2)
     ∷ rowIs 1 0 (pos 50) (pos 100) 5 0 ∷ pairIs 2 1 1 ∷ gapIs 2 1 (negsuc 9)
-    ∷ enters (other (cut (pos 1) (pos 0) (pos 85))) ∷ rowIs 1 2 (pos 0) (pos 0) 0 0
+    ∷ enters (cutTo 1 0 85) ∷ rowIs 1 2 (pos 0) (pos 0) 0 0
     ∷ refuses 8 (made-valid 1) ∷ tallyIs 1 ∷ []
 
+-- "the later E and the earlier D hold"; a job marked 2 holds 0 and stays invalid; a pair with an invalid job is 0 and 0
+abbrev pub cutsAndMarks : List Line
+cutsAndMarks =
+    enters (job 10 0 100) ∷ enters (undecided 5 0 100) ∷ gapIs 0 1 (negsuc 99)
+    ∷ enters (cutTo 0 20 90) ∷ rowIs 0 1 (pos 20) (pos 90) 0 0
+    ∷ enters (cutTo 0 10 80) ∷ rowIs 0 1 (pos 20) (pos 80) 0 0
+    ∷ enters (cutTo 0 30 90) ∷ rowIs 0 1 (pos 30) (pos 80) 0 0
+    ∷ enters (other (mark (pos 1) (pos 2))) ∷ rowIs 1 2 (pos 0) (pos 0) 0 0 ∷ pairIs 0 1 0 ∷ gapIs 0 1 (pos 0)
+    ∷ refuses 8 (made-valid 1) ∷ refuses 8 (other (mark (pos 0) (pos 2))) ∷ tallyIs 2 ∷ []
+
 abbrev pub table : List (List Line)
-table = M1 ∷ M2 ∷ M3 ∷ M4 ∷ M5 ∷ M6 ∷ M7 ∷ M8 ∷ M9 ∷ M10 ∷ M11 ∷ M12 ∷ wholeCase ∷ []
+table = M1 ∷ M2 ∷ M3 ∷ M4 ∷ M5 ∷ M6 ∷ M7 ∷ M8 ∷ M9 ∷ M10 ∷ M11 ∷ M12 ∷ wholeCase ∷ cutsAndMarks ∷ []
 
 -- every line of every example is true
 pub examples-hold : all-true table ≡ true
