@@ -3,6 +3,7 @@ pub mod Find
 pub mod Closing
 pub mod Check
 pub mod Search
+pub mod FindTests
 pub mod FindSound
 pub mod FindComplete
 pub mod Measure

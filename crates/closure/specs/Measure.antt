@@ -2,17 +2,15 @@
 -- It falls with each inference made, so that there are never more inferences than `steps`.
 use mathlib.Core.Path.{_≡_, refl}
 use mathlib.Core.Bool.{Bool, true, false, cond, not, _&&_}
-use mathlib.Core.List.{[], _∷_}
 use Prim.Native.Nat.{ℕ, suc, _+_, _≤_, _<_}
 use native.Mathlib.Omega.{arith}
 use lib.IntN.{ℤ, negℤ, _-ℤ_}
 use lib.Signed.{leZ, _≤ℤ_, _<ℤ_}
-use borrow.Author.Tests.{not-true}
 use Rattle.minutes.specs.Bools.{is-false, refuted}
 use Rattle.minutes.specs.Linear.{whole, above, below, plus, minus, none-below}
 use Rattle.minutes.specs.Sum.{count, count-mono, count-falls, count-bound}
 use Rattle.board.specs.declared.Board.{Board}
-use Rattle.board.specs.Paper.View.{Row, View, Live, Invalid, Side, early, late, bound, view, rowOf, arcOf}
+use Rattle.board.specs.Paper.View.{Row, View, Live, Arc, Invalid, Side, early, late, bound, view, rowOf}
 use Rattle.board.specs.Paper.Facts.{Fact, is-arc, is-bound, Holds}
 use Rattle.board.specs.Inference.Infers.{Infers, r1, r2, r3, r45, r6}
 use Rattle.board.specs.Paper.Limits.{IsTime, Fits, Within, jobLimit, lastMinute}
@@ -20,7 +18,7 @@ use Rattle.board.specs.Order.Laws.{live-down, arc-up, bound-up}
 use Rattle.board.specs.Update.Extension.{Above}
 use Rattle.board.specs.Tests.Live.{live, live-yes, live-show}
 use Rattle.closure.specs.Closing.{steps}
-use Rattle.closure.specs.Search.{given}
+use Rattle.board.specs.Tests.Decides.{Decides, _and_, negated, holds, live-is}
 
 -- the minutes by which a bound can still rise
 abbrev slack : Side → Row → ℕ
@@ -52,13 +50,8 @@ cond-falls true true e p h = h refl
 cond-falls false true e p h = p
 cond-falls s false e p h = absurd (refuted refl e)
 
-module _ (v : View) (i k : ℕ) where
-  lacking-yes : {R : Type 0} → lacking v i k ≡ true → (Live v i → Live v k → v .arc i k ≡ false → R) → R
-  lacking-yes e h =
-      given (live v i) (live v k ∷ not (v .arc i k) ∷ []) (λ li lk a. h (live-yes v i li) (live-yes v k lk) (not-true _ a)) e
-
-  lacking-show : Live v i → Live v k → v .arc i k ≡ false → lacking v i k ≡ true
-  lacking-show li lk e = rw (live-show v i li, live-show v k lk, e)
+lacking-is : (v : View) (i k : ℕ) → Decides (lacking v i k) ((Live v i × Live v k) × (Arc v i k → ⊥))
+lacking-is v i k = live-is v i and live-is v k and negated (holds (v .arc i k))
 
 -- slack s r is what is left of 500000 above the bound
 slack-is : (s : Side) (r : Row) → bound s r ≤ℤ lastMinute → slack s r + above (bound s r) ≡ 500000 + below (bound s r)
@@ -99,9 +92,11 @@ module _ (b c : Board) (more : Above (b .jobs) b c) where
       (live-show (view b) j (live-before j l), omega (arith, slack-mono early j l, slack-mono late j l))
 
   missing-mono : (i k : ℕ) → missing (view c) i k ≤ missing (view b) i k
-  missing-mono i k = cond-mono (lacking (view c) i k) (lacking (view b) i k) λ e. lacking-yes (view c) i k e λ li lk no-arc.
-      let before = is-false (arcOf b i k) λ arc. refuted no-arc (arc-up (view b) (view c) (more .above) i k arc li lk) in
-      (lacking-show (view b) i k (live-before i li) (live-before k lk) before, omega arith)
+  missing-mono i k = cond-mono (lacking (view c) i k) (lacking (view b) i k) λ e.
+      let ((li, lk), none) = lacking-is (view c) i k .yes e in (
+        lacking-is (view b) i k .show ((live-before i li, live-before k lk), λ arc. none (arc-up (view b) (view c) (more .above) i k arc li lk)),
+        omega arith,
+      )
 
   row-mono : (i : ℕ) → count jobLimit (missing (view c) i) ≤ count jobLimit (missing (view b) i)
   row-mono i = count-mono jobLimit _ _ λ k _. missing-mono i k
@@ -138,11 +133,12 @@ module _ (b c : Board) (more : Above (b .jobs) b c) where
       )
     where
       before : lacking (view b) i k ≡ true
-      before = lacking-show (view b) i k li lk (is-false (arcOf b i k) λ e. h (li .0, lk .0, λ _ _. e))
+      before = lacking-is (view b) i k .show ((li, lk), λ arc. h (li .0, lk .0, λ _ _. arc))
 
       drawn : missing (view c) i k < missing (view b) i k
-      drawn = cond-falls (lacking (view c) i k) (lacking (view b) i k) before (omega arith) λ e. lacking-yes (view c) i k e λ li lk no-arc.
-          absurd (refuted no-arc (arc li lk))
+      drawn = cond-falls (lacking (view c) i k) (lacking (view b) i k) before (omega arith) λ e.
+          let ((li, lk), none) = lacking-is (view c) i k .yes e in
+          absurd (none (arc li lk))
 
   pub measure-falls : (f : Fact) → Infers (view b) f → (Holds (view b) f → ⊥) → Holds (view c) f → measure c < measure b
   measure-falls _ (r1 i j k li vj lk ne ij jk) h m = arc-falls i k li lk h m

@@ -5,9 +5,14 @@ use mathlib.Core.Bool.{Bool, true, false, not, _&&_, Bool·beq}
 use Prim.Native.Nat.{ℕ, zero, suc, _≤_, _<_}
 use native.Mathlib.Omega.{arith}
 use lib.Dec.{eqb, leb, ltb}
+use lib.IntN.{ℤ}
+use lib.Signed.{leZ, ltZ, _≤ℤ_, _<ℤ_}
 use borrow.Author.Count.{below-more}
 use borrow.Author.Tests.{leb-true, le-leb, ltb-true, lt-ltb, eqb-true, eq-eqb, not-true}
 use Rattle.minutes.specs.Bools.{is-false, refuted, and-parts, and-both}
+use Rattle.minutes.specs.Linear.{whole}
+use Rattle.board.specs.Paper.View.{View, Live, Valid}
+use Rattle.board.specs.Tests.Live.{live, valid, live-yes, live-show, valid-yes, valid-show}
 use Rattle.board.specs.Tests.Limits.{all, implies}
 
 pub record Decides (t : Bool) (P : Type 0) : Type 0 where
@@ -61,3 +66,23 @@ same true true = record { yes = λ e. refl; show = λ e. refl }
 same true false = record { yes = λ e. cc; show = λ e. cc }
 same false true = record { yes = λ e. cc; show = λ e. cc }
 same false false = record { yes = λ e. refl; show = λ e. refl }
+
+pub live-is : (v : View) (j : ℕ) → Decides (live v j) (Live v j)
+live-is v j = record { yes = live-yes v j; show = live-show v j }
+
+pub valid-is : (v : View) (j : ℕ) → Decides (valid v j) (Valid v j)
+valid-is v j = record { yes = valid-yes v j; show = valid-show v j }
+
+-- orders of times
+pub at-most : (x y : ℤ) → Decides (leZ x y) (x ≤ℤ y)
+at-most x y = record { yes = λ e. omega whole; show = λ h. omega whole }
+
+pub earlier : (x y : ℤ) → Decides (ltZ x y) (x <ℤ y)
+earlier x y = record { yes = λ e. omega whole; show = λ h. omega whole }
+
+pub not-at-most : (x y : ℤ) → Decides (not (leZ x y)) (y <ℤ x)
+not-at-most x y =
+    record {
+      yes = λ e. omega (whole, not-true (leZ x y) e);
+      show = λ h. let f : leZ x y ≡ false = omega whole in rw f;
+    }

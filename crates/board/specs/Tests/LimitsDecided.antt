@@ -9,7 +9,7 @@ use native.Mathlib.Decide.{decLt}
 use native.Mathlib.Omega.{arith}
 use lib.IntN.{ℤ, pos}
 use lib.ListN.{length, getD, List·getD-eq-default}
-use lib.Signed.{leZ, _≤ℤ_}
+use lib.Signed.{_≤ℤ_}
 use Rattle.minutes.specs.Bools.{is-false, refuted, same-tests}
 use Rattle.words.specs.Bit.{bit}
 use Rattle.words.specs.BitLaws.{bit-high, bit-zero, bits-bound}
@@ -17,21 +17,15 @@ use Rattle.minutes.specs.Linear.{whole}
 use Rattle.board.specs.declared.Board.{Board}
 use Rattle.board.specs.Paper.View.{Row, view, rowOf, arcOf, arcIntoOf, Live, Arc}
 use Rattle.board.specs.Paper.Limits.{jobLimit, tallyLimit, IsTime, IsLength, Fits, zeroRow, RowLimits, Shape, Within}
-use Rattle.board.specs.Tests.Live.{live, live-yes, live-show}
+use Rattle.board.specs.Tests.Live.{live}
 use Rattle.board.specs.Tests.Limits.{between, isTime, isLength, isZero, fits, isZeroRow, full, shape, holdsJob, holdsNothing, joinable, agrees, withinLimits}
-use Rattle.board.specs.Tests.Decides.{Decides, restated, _and_, implied, negated, every, holds, le, lt, eq, same}
+use Rattle.board.specs.Tests.Decides.{Decides, restated, _and_, implied, negated, every, holds, le, lt, eq, same, live-is, at-most}
 
 -- ---- rows
-
-decides-live : (b : Board) (k : ℕ) → Decides (live (view b) k) (Live (view b) k)
-decides-live b k = record { yes = live-yes (view b) k; show = live-show (view b) k }
 
 pub decides-between : (low high z : ℤ) → Decides (between low high z) ((low ≤ℤ z) × (z ≤ℤ high))
 unfolding between
 decides-between low high z = at-most low z and at-most z high
-  where
-    at-most : (x y : ℤ) → Decides (leZ x y) (x ≤ℤ y)
-    at-most x y = record { yes = λ e. omega whole; show = λ h. omega whole }
 
 pub decides-time : (z : ℤ) → Decides (isTime z) (IsTime z)
 unfolding isTime
@@ -88,7 +82,7 @@ decides-job b k =
     let r = rowOf b k in
     restated
     (le (r .mark) 2
-    and implied (decides-live b k) (decides-fits r)
+    and implied (live-is (view b) k) (decides-fits r)
     and implied (eq (r .mark) 2) (decides-zeroRow 2 r)
     and lt (getD (b .after) k 0) (2 ^ b .jobs)
     and lt (getD (b .before) k 0) (2 ^ b .jobs))
@@ -115,7 +109,7 @@ Joinable b i k = Live (view b) i × Live (view b) k × (i ≢ k)
 
 decides-joinable : (b : Board) (i k : ℕ) → Decides (joinable b i k) (Joinable b i k)
 unfolding joinable
-decides-joinable b i k = restated (decides-live b i and decides-live b k and negated (eq i k)) (λ h. search) (λ h. search)
+decides-joinable b i k = restated (live-is (view b) i and live-is (view b) k and negated (eq i k)) (λ h. search) (λ h. search)
 
 -- what is tested of two jobs
 record Pair (b : Board) (i k : ℕ) : Type 0 where
