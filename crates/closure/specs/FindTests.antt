@@ -4,25 +4,17 @@ use mathlib.Core.Logic.{_≢_}
 use mathlib.Core.Bool.{not, _&&_}
 use Prim.Native.Nat.{ℕ, _<_}
 use lib.Dec.{eqb}
-use lib.IntN.{ℤ, _+ℤ_}
+use lib.IntN.{_+ℤ_}
 use lib.Signed.{ltZ, _≤ℤ_, _<ℤ_}
 use Rattle.minutes.specs.Linear.{whole}
 use Rattle.board.specs.Paper.View.{View, Live, Valid, Arc, Side, early, late, bound, Beyond}
+use Rattle.board.specs.Paper.Rules.{E, D, L}
 use Rattle.board.specs.Tests.Live.{live, valid, roomy}
 use Rattle.board.specs.Tests.Decides.{Decides, _and_, negated, holds, eq, live-is, valid-is, at-most, earlier, not-at-most}
 use Rattle.closure.specs.Find.{beyond, tooLate, joined, pushers, pushed}
 use Rattle.closure.specs.Search.{some-below}
 
 module _ (v : View) where
-  abbrev E : ℕ → ℤ
-  E j = v .row j .earliest
-
-  abbrev D : ℕ → ℤ
-  D j = v .row j .latest
-
-  abbrev L : ℕ → ℤ
-  L j = v .row j .length
-
   beyond-is : (s : Side) (k j : ℕ) → Decides (beyond v s k j) (Beyond v s k j)
   unfolding beyond
   beyond-is early k j = holds (v .arc k j)
@@ -35,21 +27,21 @@ module _ (v : View) where
   no-arc a b = negated (holds (v .arc a b))
 
   -- R6
-  pub room-is : (j : ℕ) → Decides (live v j && not (roomy (v .row j))) (Live v j × (D j <ℤ (E j +ℤ L j)))
-  room-is j = live-is v j and not-at-most (E j +ℤ L j) (D j)
+  pub room-is : (j : ℕ) → Decides (live v j && not (roomy (v .row j))) (Live v j × (D v j <ℤ (E v j +ℤ L v j)))
+  room-is j = live-is v j and not-at-most (E v j +ℤ L v j) (D v j)
 
   -- R2
   pub exclude-is : (a b : ℕ) → Decides (valid v a && live v b && v .arc a b && v .arc b a) (((Valid v a × Live v b) × Arc v a b) × Arc v b a)
   exclude-is a b = valid-is v a and live-is v b and holds (v .arc a b) and holds (v .arc b a)
 
   -- R3
-  late-is : (a b : ℕ) → Decides (tooLate v a b) (D b <ℤ (E a +ℤ L a +ℤ L b))
+  late-is : (a b : ℕ) → Decides (tooLate v a b) (D v b <ℤ (E v a +ℤ L v a +ℤ L v b))
   unfolding tooLate
   late-is a b = record { yes = λ e. omega whole; show = λ h. omega whole }
 
   pub order-is : (a b : ℕ)
       → Decides (live v a && live v b && not (eqb a b) && tooLate v a b && not (v .arc b a))
-      ((((Live v a × Live v b) × (a ≢ b)) × (D b <ℤ (E a +ℤ L a +ℤ L b))) × (Arc v b a → ⊥))
+      ((((Live v a × Live v b) × (a ≢ b)) × (D v b <ℤ (E v a +ℤ L v a +ℤ L v b))) × (Arc v b a → ⊥))
   order-is a b = live-is v a and live-is v b and differ a b and late-is a b and no-arc b a
 
   -- R1

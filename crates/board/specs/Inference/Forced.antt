@@ -11,7 +11,7 @@ use Rattle.minutes.specs.Linear.{whole, plus}
 use Rattle.minutes.specs.Sum.{total-same, total-more}
 use Rattle.board.specs.Paper.View.{View, Live, Valid, Invalid, Side, bound}
 use Rattle.board.specs.Paper.Facts.{Fact, is-arc, is-bound, is-invalid, Holds}
-use Rattle.board.specs.Paper.Rules.{energy}
+use Rattle.board.specs.Paper.Rules.{E, D, L, energy}
 use Rattle.board.specs.Inference.Infers.{Pushing, Infers, r1, r2, r3, r45, r6, Obeys}
 use Rattle.board.specs.Paper.Entries.{_⊑_}
 use Rattle.board.specs.Order.Laws.{below-up, valid-up, arc-up, bound-up, length-up, beyond-up}
@@ -50,8 +50,8 @@ module _ (v w : View) (up : v ⊑ w) (obeys : Obeys w) where
       }
 
   tight : (a b : ℕ) → Live v a → Live v b → Live w a → Live w b
-      → v .row b .latest <ℤ (v .row a .earliest +ℤ v .row a .length +ℤ v .row b .length)
-      → w .row b .latest <ℤ (w .row a .earliest +ℤ w .row a .length +ℤ w .row b .length)
+      → D v b <ℤ (E v a +ℤ L v a +ℤ L v b)
+      → D w b <ℤ (E w a +ℤ L w a +ℤ L w b)
   tight a b la lb la′ lb′ h =
       let r = v .row a in
       let s = w .row a in
@@ -70,8 +70,8 @@ module _ (v w : View) (up : v ⊑ w) (obeys : Obeys w) where
       )
 
   short : (j : ℕ) → Live v j → Live w j
-      → v .row j .latest <ℤ (v .row j .earliest +ℤ v .row j .length)
-      → w .row j .latest <ℤ (w .row j .earliest +ℤ w .row j .length)
+      → D v j <ℤ (E v j +ℤ L v j)
+      → D w j <ℤ (E w j +ℤ L w j)
   short j lj lj′ h =
       let r = v .row j in
       let s = w .row j in

@@ -7,7 +7,7 @@ use Prim.Native.Nat.{ℕ}
 use lib.IntN.{ℤ, _+ℤ_}
 use lib.Signed.{_≤ℤ_, _<ℤ_}
 use Rattle.board.specs.Paper.View.{View, Live, Valid, Arc, Side, bound, Beyond}
-use Rattle.board.specs.Paper.Rules.{energy}
+use Rattle.board.specs.Paper.Rules.{E, D, L, energy}
 use Rattle.board.specs.Paper.Facts.{Fact, is-arc, is-bound, is-invalid, Holds}
 
 -- A non-empty set S of valid jobs beyond j on side s, none of which has a bound below m.
@@ -22,9 +22,9 @@ pub data Infers (v : View) : Fact → Type 0 where
   r1 : (a b c : ℕ) → Live v a → Valid v b → Live v c → a ≢ c → Arc v a b → Arc v b c → Infers v (is-arc a c)
   r2 : (a b : ℕ) → Valid v a → Live v b → Arc v a b → Arc v b a → Infers v (is-invalid b)
   r3 : (a b : ℕ) → Live v a → Live v b → a ≢ b
-      → v .row b .latest <ℤ (v .row a .earliest +ℤ v .row a .length +ℤ v .row b .length) → Infers v (is-arc b a)
+      → D v b <ℤ (E v a +ℤ L v a +ℤ L v b) → Infers v (is-arc b a)
   r45 : (s : Side) (j : ℕ) (S : ℕ → Bool) (m : ℤ) → Live v j → Pushing v s j S m → Infers v (is-bound s j (m +ℤ energy v S))
-  r6 : (j : ℕ) → Live v j → v .row j .latest <ℤ (v .row j .earliest +ℤ v .row j .length) → Infers v (is-invalid j)
+  r6 : (j : ℕ) → Live v j → D v j <ℤ (E v j +ℤ L v j) → Infers v (is-invalid j)
 
 -- A view obeys the rules when it shows all that they infer from it.
 abbrev pub Obeys : View → Type 0

@@ -13,13 +13,14 @@ abbrev pub energy : View → (ℕ → Bool) → ℤ
 energy v S = total (v .jobs) S (λ k. v .row k .length)
 
 module _ (v : View) where
-  abbrev E : ℕ → ℤ
+  -- E, D and the length of a job
+  abbrev pub E : ℕ → ℤ
   E j = v .row j .earliest
 
-  abbrev D : ℕ → ℤ
+  abbrev pub D : ℕ → ℤ
   D j = v .row j .latest
 
-  abbrev L : ℕ → ℤ
+  abbrev pub L : ℕ → ℤ
   L j = v .row j .length
 
   -- "arcs A to B and B to C, B valid, A and C live and different, give A to C"
