@@ -8,3 +8,4 @@ pub mod Closed
 pub mod Schedules
 pub mod Equality
 pub mod Refusals
+pub mod Values

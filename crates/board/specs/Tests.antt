@@ -4,3 +4,4 @@ pub mod Decides
 pub mod Limits
 pub mod LimitsDecided
 pub mod Empty
+pub mod Ranges

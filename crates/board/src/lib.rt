@@ -3,6 +3,8 @@ ghost use mathlib.Core.Path.{_≡_};
 ghost use Rattle.board.specs.Paper.Limits.{emptyBoard};
 ghost use Rattle.board.specs.Paper.Refusals.{numberOf};
 
+pub mod facts;
+
 // A place k below `jobs` is job k. A place without a job holds 0 in everything. Bit k of `after[i]` is the arc from i to k,
 // and bit i of `before[k]` is the same arc, kept a second time so that either set is one word.
 pub struct Board {
@@ -29,6 +31,13 @@ impl Board {
     pub const SHORTEST: i32 = 1;
 
     pub const LONGEST: i32 = 10000;
+
+    // "a mark: 0 undecided, 1 valid, 2 invalid"
+    pub const UNDECIDED: u8 = 0;
+
+    pub const VALID: u8 = 1;
+
+    pub const INVALID: u8 = 2;
 
     // The tally "stops at 1000000".
     pub const TALLY: u32 = 1000000;

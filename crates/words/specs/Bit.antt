@@ -1,7 +1,8 @@
 -- A set of jobs as one number: bit k is 1 where job k is in the set. `difference` and `without` complement a set, so they
 -- take the width n that the sets fit. What these definitions mean for the members is in BitLaws. Assumes nothing.
-use Prim.Native.Nat.{ℕ, zero, suc, _+_, _-_, _*_, _/_, _%_, _^_}
-use mathlib.Core.Bool.{Bool, cond}
+use Prim.Native.Nat.{ℕ, zero, suc, _+_, _-_, _*_, _/_, _%_, _^_, _<_}
+use mathlib.Core.Path.{_≡_}
+use mathlib.Core.Bool.{Bool, true, false, cond}
 use lib.Bits.{bitAnd, bitOr}
 use lib.Dec.{eqb}
 
@@ -31,3 +32,9 @@ without n w k = difference n w (singleton k)
 unfoldable pub setOf : ℕ → (ℕ → Bool) → ℕ
 setOf zero t = 0
 setOf (suc n) t = cond (t 0) 1 0 + 2 * setOf n (λ k. t (suc k))
+
+-- k is the least member of the set w, of jobs below n
+pub record Lowest (n w k : ℕ) : Type 0 where
+  pub width : k < n
+  pub member : bit w k ≡ true
+  pub least : (j : ℕ) → j < k → bit w j ≡ false

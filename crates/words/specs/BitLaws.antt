@@ -24,7 +24,7 @@ digit P p q w = go (w % 2) (omega arith)
     go (suc zero) h = q
     go (suc (suc d)) h = absurd (omega arith)
 
-bit-low : (w : ℕ) → bit w 0 ≡ eqb (w % 2) 1
+pub bit-low : (w : ℕ) → bit w 0 ≡ eqb (w % 2) 1
 unfolding bit
 bit-low w = ap (λ (x : ℕ). eqb (x % 2) 1) (div-one w)
 
@@ -39,7 +39,7 @@ bit-shift : (w i k : ℕ) → bit (w / 2 ^ i) k ≡ bit w (i + k)
 unfolding bit
 bit-shift w i k = ap (λ (x : ℕ). eqb (x % 2) 1) (shr-shr w i k)
 
-bit-half : (w k : ℕ) → bit (w / 2) k ≡ bit w (suc k)
+pub bit-half : (w k : ℕ) → bit (w / 2) k ≡ bit w (suc k)
 bit-half w k = bit-shift w 1 k ∙ ap (bit w) (omega arith)
 
 -- ---- the empty set, one member, and the bits past the width

@@ -1,5 +1,6 @@
 // Sets of at most 64 jobs, each set one word with bit k for job k: test, union and clearing by shift and mask.
 ghost use mathlib.Core.Path.{_≡_};
+ghost use mathlib.Core.Logic.{_≢_};
 ghost use Prim.Native.Nat.{_<_};
 ghost use Rattle.words.specs.Bit as sets;
 
@@ -46,4 +47,12 @@ pub fn difference(a: u64, b: u64) -> u64
     ensures { λ r. ⌜ r ≡ sets.difference 64 a b ⌝ }
 {
     a & !b
+}
+
+// The least job of a set that has one.
+pub fn lowest(w: u64) -> usize
+    requires { ⌜ w ≢ 0 ⌝ }
+    ensures { λ r. ⌜ sets.Lowest 64 w r ⌝ }
+{
+    u64::trailing_zeros(w) as usize
 }

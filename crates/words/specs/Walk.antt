@@ -1,0 +1,73 @@
+-- Walking a set by its least member: that the code's count of trailing zeros is the least member, and what is left once a
+-- member is taken out. A walk goes on until nothing is left. Assumes nothing.
+use Prim.Native.Nat.{ℕ, zero, suc, _/_, _%_, _^_, _≤_, _<_}
+use mathlib.Core.Bool.{Bool, true, false, and-true, and-false}
+use mathlib.Core.Path.{_≡_, refl, sym, ap, _∙_, subst⁻¹}
+use mathlib.Core.Logic.{_≢_}
+use native.Mathlib.Decide.{ℕ-discrete}
+use native.Mathlib.Nat.{pow-suc}
+use native.Mathlib.Omega.{arith}
+use lib.Bits.{and-le-l}
+use lib.Count.{trailingZeros, under}
+use lib.Dec.{eqb}
+use borrow.Author.Tests.{eq-eqb, ne-eqb}
+use Rattle.words.specs.Bit.{bit, singleton, difference, without, Lowest}
+use Rattle.words.specs.BitLaws.{bit-low, bit-half, bit-zero, bit-without}
+
+pub trailing-lowest : (n w : ℕ) → w ≢ 0 → w < 2 ^ n → Lowest n w (trailingZeros n w)
+unfolding trailingZeros
+trailing-lowest zero w h l = absurd (h (omega arith))
+trailing-lowest (suc n) w h l = go (w % 2) refl λ e. trailing-lowest n (w / 2) e (omega (arith, pow-suc 2 n))
+  where
+    later : w % 2 ≡ 0 → (k : ℕ) → Lowest n (w / 2) k → (j : ℕ) → j < suc k → bit w j ≡ false
+    later e k r zero b = bit-low w ∙ ap (λ (x : ℕ). eqb x 1) e
+    later e k r (suc j) b = sym (bit-half w j) ∙ r .least j (omega arith)
+
+    go : (d : ℕ) → w % 2 ≡ d → (w / 2 ≢ 0 → Lowest n (w / 2) (trailingZeros n (w / 2))) → Lowest (suc n) w (under d (trailingZeros n (w / 2)))
+    go zero e rest =
+        let r = rest λ z. h (omega arith) in
+        record {
+          width = omega (arith, r .width);
+          member = sym (bit-half w (trailingZeros n (w / 2))) ∙ r .member;
+          least = later e (trailingZeros n (w / 2)) r;
+        }
+    go (suc d) e rest =
+        let odd : w % 2 ≡ 1 = omega arith in
+        record {
+          width = omega arith;
+          member = bit-low w ∙ ap (λ (x : ℕ). eqb x 1) odd;
+          least = λ j b. absurd (omega arith);
+        }
+
+strict : {a b : ℕ} → a ≤ b → a ≢ b → a < b
+strict l ne = omega (arith, ne)
+
+module _ (n w k : ℕ) (fits : w < 2 ^ n) (width : k < n) where
+  -- the member taken out is out
+  pub without-self : bit (without n w k) k ≡ false
+  without-self = bit-without n w k k fits width ∙ rw (eq-eqb k k refl) (and-false (bit w k))
+
+  -- the others stay
+  pub without-other : (j : ℕ) → j ≢ k → bit (without n w k) j ≡ bit w j
+  without-other j ne = bit-without n w k j fits width ∙ rw (ne-eqb k j (λ e. ne (sym e))) (and-true (bit w j))
+
+  -- so the word gets smaller, and a walk ends
+  pub without-falls : bit w k ≡ true → without n w k < w
+  unfolding without difference
+  without-falls e = strict (and-le-l w _) λ same.
+      let out : bit w k ≡ false = sym (ap (λ (x : ℕ). bit x k) same) ∙ without-self in
+      let clash : _≡_ {A = ℕ} 0 1 = cc in
+      omega arith
+
+  -- what holds of each member taken out so far, and of this one, holds of each taken out now
+  pub taken-out : (P : ℕ → Type 0) (S : ℕ → Bool) → ((j : ℕ) → S j ≡ true → bit w j ≡ false → P j) → P k
+      → (j : ℕ) → S j ≡ true → bit (without n w k) j ≡ false → P j
+  taken-out P S before now j s out = go (ℕ-discrete j k)
+    where
+      go : Dec (j ≡ k) → P j
+      go (yes e) = subst⁻¹ P e now
+      go (no ne) = before j s (sym (without-other j ne) ∙ out)
+
+-- nothing is left of an empty set
+pub all-out : (P : ℕ → Type 0) (S : ℕ → Bool) → ((j : ℕ) → S j ≡ true → bit 0 j ≡ false → P j) → (j : ℕ) → S j ≡ true → P j
+all-out P S h j s = h j s (bit-zero j)
