@@ -100,5 +100,5 @@ several =
     ∷ []
 
 boundaries-hold : (every additions && every others && every several) ≡ true
-unfolding isNumber isNone refused passed every long window begins additions others several eqZ between isTime isLength gate
+unfolding isNumber isNone refused passed every long window begins additions others several eqZ between gate
 boundaries-hold = refl

@@ -168,5 +168,5 @@ table = M1 ∷ M2 ∷ M3 ∷ M4 ∷ M5 ∷ M6 ∷ M7 ∷ M8 ∷ M9 ∷ M10 ∷ M
 
 -- every line of every example is true
 pub examples-hold : all-true table ≡ true
-unfolding eqZ bit with without union difference singleton sum all implies between isTime isLength isZero fits isZeroRow full shape holdsJob holdsNothing joinable agrees withinLimits live valid exclude tighten update _andThen_ guard _orElse_ first any beyond tooLate joined pushers pushed push next find close closure nothingLeft passes gate updateAll raw closureWith enter row pair
+unfolding eqZ bit with without union difference singleton sum all implies between isZero fits isZeroRow full shape holdsJob holdsNothing joinable agrees withinLimits live valid exclude tighten update _andThen_ guard _orElse_ first any beyond tooLate joined pushers pushed push next find close closure nothingLeft passes gate updateAll raw closureWith enter row pair
 examples-hold = refl

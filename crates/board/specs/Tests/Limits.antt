@@ -27,10 +27,10 @@ unfoldable pub between : ℤ → ℤ → ℤ → Bool
 between low high z = leZ low z && leZ z high
 
 -- the limits of times and lengths, and the number 0
-unfoldable pub isTime : ℤ → Bool
+abbrev pub isTime : ℤ → Bool
 isTime z = between firstMinute lastMinute z
 
-unfoldable pub isLength : ℤ → Bool
+abbrev pub isLength : ℤ → Bool
 isLength z = between shortest longest z
 
 unfoldable pub isZero : ℤ → Bool

@@ -28,11 +28,9 @@ unfolding between
 decides-between low high z = at-most low z and at-most z high
 
 pub decides-time : (z : ℤ) → Decides (isTime z) (IsTime z)
-unfolding isTime
 decides-time z = restated (decides-between _ _ z) (λ h. omega whole) (λ h. omega whole)
 
 pub decides-length : (z : ℤ) → Decides (isLength z) (IsLength z)
-unfolding isLength
 decides-length z = restated (decides-between _ _ z) (λ h. omega whole) (λ h. omega whole)
 
 decides-zero : (z : ℤ) → Decides (isZero z) (z ≡ pos 0)

@@ -1,0 +1,14 @@
+-- `board::limits::is_length` meets its contract, by that of `between`. Assumes nothing.
+use borrow.Author.Needs.{needs}
+use mir.ValLaws.{toZ-ofZ}
+use Rattle.board.proofs.limits.is_length.Statement.{statement}
+use Rattle.board.proofs.limits.is_length.Tie as tie
+
+between-requires : tie.Need-between-requires
+between-requires c κs = search needs
+
+returns : tie.Need-returns
+returns c = simp (toZ-ofZ, c .before .fits .z) at (c .between .ensures)
+
+pub is-length-spec : {M : Type 1} → statement M
+is-length-spec = tie.close (tie.spec between-requires returns)
