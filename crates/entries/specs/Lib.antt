@@ -3,6 +3,8 @@ pub mod Paper
 -- that `enter` is exact, call by call and over a sequence
 pub mod Made
 pub mod Listed
+pub mod Lines
+pub mod Numbers
 pub mod Allowed
 pub mod Raw
 pub mod Settles
@@ -16,3 +18,5 @@ pub mod Exactly
 pub mod Unaltered
 pub mod HandedIn
 pub mod Boundaries
+-- what the proofs of the code stand on
+pub mod Natural

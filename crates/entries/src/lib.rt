@@ -1,4 +1,6 @@
 // What the calls on a board hand back.
+pub mod gate;
+
 use board::Board;
 use board::Refusal;
 

@@ -1,6 +1,6 @@
 -- Tests that decide statements, and that the connectives of tests decide those of statements: so what a long test decides
 -- is said once for both directions.
-use mathlib.Core.Path.{_≡_, refl}
+use mathlib.Core.Path.{_≡_, refl, sym, _∙_}
 use mathlib.Core.Bool.{Bool, true, false, not, _&&_, Bool·beq}
 use Prim.Native.Nat.{ℕ, zero, suc, _≤_, _<_}
 use native.Mathlib.Omega.{arith}
@@ -25,6 +25,10 @@ holds t = record { yes = λ e. e; show = λ e. e }
 -- the same statement in other words
 pub restated : {t : Bool} {P Q : Type 0} → Decides t P → (P → Q) → (Q → P) → Decides t Q
 restated d f g = record { yes = λ e. f (d .yes e); show = λ q. d .show (g q) }
+
+-- a test that is equal to one that decides the statement
+pub retested : {s t : Bool} {P : Type 0} → s ≡ t → Decides t P → Decides s P
+retested e d = record { yes = λ x. d .yes (sym e ∙ x); show = λ p. e ∙ d .show p }
 
 infixl 35 _and_
 pub _and_ : {s t : Bool} {P Q : Type 0} → Decides s P → Decides t Q → Decides (s && t) (P × Q)

@@ -72,3 +72,6 @@ module _ (b : Board) (h : Within b) where
 -- a time or a length is far from the ends of an i32
 pub time-moderate : {z : _} → IsTime z → Moderate z
 time-moderate t = (omega (whole, t .low), omega (whole, t .high))
+
+pub length-moderate : {r : Row} → Ranges r → Moderate (r .length)
+length-moderate h = (omega (whole, h .low), omega (whole, h .high))
