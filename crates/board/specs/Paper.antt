@@ -3,6 +3,7 @@ pub mod View
 pub mod Limits
 pub mod Facts
 pub mod Rules
+pub mod Energy
 pub mod Entries
 pub mod Closed
 pub mod Schedules

@@ -1,1 +1,5 @@
-// The closure of a board.
+// The closure of a board: finding what a rule infers, applying it, and repeating the two; and check 0.
+pub mod energy;
+pub mod find;
+pub mod limits;
+pub mod marked;

@@ -1,8 +1,10 @@
 -- Sums over the numbers below n: of times, of those in a set alone, and of naturals, for a measure that falls.
 -- A set is its test, `S k ≡ true`. A set with a member has one at which f is least.
-use mathlib.Core.Path.{_≡_, refl, _∙_}
+use mathlib.Core.Path.{_≡_, refl, sym, _∙_}
+use mathlib.Core.Logic.{_≢_}
 use mathlib.Core.Bool.{Bool, true, false, cond, not, _&&_}
 use Prim.Native.Nat.{ℕ, zero, suc, _+_, _*_, _≤_, _<_}
+use native.Mathlib.Decide.{ℕ-discrete}
 use native.Mathlib.Nat.{suc-mul}
 use native.Mathlib.Omega.{arith}
 use lib.Dec.{leb}
@@ -10,7 +12,7 @@ use lib.IntN.{ℤ, pos, _+ℤ_}
 use lib.Signed.{_≤ℤ_, ltZ}
 use borrow.Author.Count.{below-more}
 use borrow.Author.Tests.{leb-true, leb-false}
-use Rattle.minutes.specs.Bools.{clash}
+use Rattle.minutes.specs.Bools.{clash, by-test}
 use Rattle.minutes.specs.Linear.{whole, plus}
 
 -- the sum of f k for each k below n
@@ -92,6 +94,34 @@ total-split n S P f = sum-same n (chosen S f) _ (λ k l. at (S k) (P k) (f k)) �
     at true true x = omega (whole, plus x (pos 0))
     at true false x = omega (whole, plus (pos 0) x)
     at false p x = refl
+
+-- a member more, a term more
+pub total-member : (n : ℕ) (S R : ℕ → Bool) (f : ℕ → ℤ) (k : ℕ) → k < n → S k ≡ true → R k ≡ false
+    → ((j : ℕ) → j ≢ k → R j ≡ S j) → total n S f ≡ f k +ℤ total n R f
+unfolding sum
+total-member zero S R f k l sk rk others = absurd (omega arith)
+total-member (suc n) S R f k l sk rk others =
+    go (ℕ-discrete k n) λ b. total-member n S R f k b sk rk others
+  where
+    go : Dec (k ≡ n) → (k < n → total n S f ≡ f k +ℤ total n R f) → total (suc n) S f ≡ f k +ℤ total (suc n) R f
+    go (yes e) ih =
+        let same : total n S f ≡ total n R f = sum-same n _ _ λ j b. rw (others j λ d. omega arith) in
+        rw (← e, sk, rk) (omega (whole, rw (← e) at same, plus (total k S f) (f k), plus (total k R f) (pos 0), plus (f k) (total k R f +ℤ pos 0)))
+    go (no ne) ih =
+        let c : ℤ = cond (S n) (f n) (pos 0) in
+        rw (others n λ d. ne (sym d))
+        (omega (whole, ih (omega (arith, ne)), plus (total n S f) c, plus (total n R f) c, plus (f k) (total n R f +ℤ c), plus (f k) (total n R f)))
+
+-- n terms of at most c
+pub total-range : (n c : ℕ) (S : ℕ → Bool) (f : ℕ → ℤ) → ((k : ℕ) → (pos 0 ≤ℤ f k) × (f k ≤ℤ pos c))
+    → (pos 0 ≤ℤ total n S f) × (total n S f ≤ℤ pos (n * c))
+unfolding sum
+total-range zero c S f h = (omega whole, omega whole)
+total-range (suc n) c S f h =
+    let (low, high) = total-range n c S f h in
+    let x : ℤ = cond (S n) (f n) (pos 0) in
+    let at : (pos 0 ≤ℤ x) × (x ≤ℤ pos c) = by-test (λ y. (pos 0 ≤ℤ y) × (y ≤ℤ pos c)) (S n) (f n) (pos 0) (λ e. h n) (λ e. (omega whole, omega whole)) in
+    (omega (whole, plus (total n S f) x), omega (whole, suc-mul n c, plus (total n S f) x))
 
 -- a member of S below n at which f is least
 pub least-member : (n : ℕ) (S : ℕ → Bool) (f : ℕ → ℤ) (x : ℕ) → x < n → S x ≡ true

@@ -1,15 +1,17 @@
 -- What the operations on words do to the members of a set: the laws, at any width. Nothing but this file and Bit opens
 -- `bit`. Assumes nothing.
 use Prim.Native.Nat.{ℕ, zero, suc, _+_, _-_, _*_, _/_, _%_, _^_, _≤_, _<_}
-use mathlib.Core.Bool.{Bool, true, false, cond, not, _&&_, _||_}
-use mathlib.Core.Path.{_≡_, refl, sym, ap, _∙_}
-use native.Mathlib.Decide.{decLt}
+use mathlib.Core.Bool.{Bool, true, false, cond, not, _&&_, _||_, or-true, or-false}
+use mathlib.Core.Path.{_≡_, refl, sym, ap, _∙_, subst, subst⁻¹}
+use mathlib.Core.Logic.{_≢_}
+use native.Mathlib.Decide.{decLt, ℕ-discrete}
 use native.Mathlib.Nat.{div-eq-of-lt, div-one, lt-of-lt-of-le, lt-of-le-of-lt, mod-eq-of-lt, mod-lt, one-mul, pow-suc}
+use native.Mathlib.Numerals.{add-one}
 use native.Mathlib.Omega.{arith}
 use lib.Arith.{bin-ind}
-use lib.Bits.{bitAnd, bitOr, and-le-l, and-mask, and-mod, and-shr, or-lt, or-mod, or-shr}
+use lib.Bits.{bitAnd, bitOr, and-le-l, and-le-r, and-mask, and-mod, and-shr, or-lt, or-mod, or-shr}
 use lib.Dec.{eqb, ltb, eqb·zero-suc, eqb·suc-zero, eqb·suc-suc, leb·suc-zero, leb·suc-suc}
-use borrow.Author.Tests.{lt-ltb, eq-eqb, ne-eqb}
+use borrow.Author.Tests.{lt-ltb, le-ltb, eq-eqb, ne-eqb, not-false}
 use lib.Pow.{pow-lt, pow-mono, pow-pos, shr-shr, split}
 use Rattle.words.specs.Bit.{bit, singleton, union, intersection, difference, with, without, setOf}
 
@@ -130,6 +132,18 @@ bit-difference n a b k ha hb = bit-intersection a (2 ^ n - 1 - b) k ∙ kept (de
     kept (yes h) = ap (λ (t : Bool). bit a k && t) (bit-complement n b k hb h)
     kept (no h) = rw (bit-high n a k ha (omega arith))
 
+-- a set without the members of another is empty where it lies within the other, and only there
+module _ (n a b : ℕ) (ha : a < 2 ^ n) (hb : b < 2 ^ n) where
+  pub subset-show : ((k : ℕ) → bit a k ≡ true → bit b k ≡ true) → difference n a b ≡ 0
+  subset-show h = bit-ext (difference n a b) 0 λ k. bit-difference n a b k ha hb ∙ none (bit a k) (bit b k) (h k) ∙ sym (bit-zero k)
+    where
+      none : (s t : Bool) → (s ≡ true → t ≡ true) → (s && not t) ≡ false
+      none true t i = rw (i refl)
+      none false t i = refl
+
+  pub subset-yes : difference n a b ≡ 0 → (k : ℕ) → bit a k ≡ true → bit b k ≡ true
+  subset-yes e k h = not-false (bit b k) (rw h at (sym (bit-difference n a b k ha hb) ∙ ap (λ (x : ℕ). bit x k) e ∙ bit-zero k))
+
 -- ---- ranges
 
 pub union-lt : (n a b : ℕ) → a < 2 ^ n → b < 2 ^ n → union a b < 2 ^ n
@@ -184,6 +198,41 @@ bit-setOf (suc n) t zero = lowest (t 0) (setOf n (λ k. t (suc k))) ∙ rw (lt-l
 bit-setOf (suc n) t (suc k) =
     let u : ℕ → Bool = λ j. t (suc j) in
     others (t 0) (setOf n u) k ∙ bit-setOf n u k ∙ rw (leb·suc-suc (suc k) n)
+
+pub setOf-lt : (n m : ℕ) (t : ℕ → Bool) → n ≤ m → setOf n t < 2 ^ m
+setOf-lt n m t l = bits-bound m (setOf n t) λ k h. bit-setOf n t k ∙ rw (le-ltb k n (omega arith))
+
+-- the next job is put in where it passes the test
+module _ (n : ℕ) (t : ℕ → Bool) where
+  next-set : (w : ℕ) → bit w n ≡ t n → ((k : ℕ) → n ≢ k → bit w k ≡ bit (setOf n t) k) → setOf (n + 1) t ≡ w
+  next-set w last others = rw (add-one n) (bit-ext (setOf (suc n) t) w λ k. bit-setOf (suc n) t k ∙ go k (ℕ-discrete n k) (decLt k n))
+    where
+      go : (k : ℕ) → Dec (n ≡ k) → Dec (k < n) → (ltb k (suc n) && t k) ≡ bit w k
+      go k (yes e) d = subst (λ (x : ℕ). (ltb x (suc n) && t x) ≡ bit w x) e (rw (lt-ltb n (suc n) (omega arith)) (sym last))
+      go k (no e) (yes l) = rw (lt-ltb k (suc n) (omega arith), others k e, bit-setOf n t k, lt-ltb k n l)
+      go k (no e) (no l) = rw (le-ltb k (suc n) (omega (arith, e)), others k e, bit-setOf n t k, le-ltb k n (omega arith))
+
+  pub setOf-with : t n ≡ true → setOf (n + 1) t ≡ with (setOf n t) n
+  setOf-with e =
+      next-set (with (setOf n t) n)
+      (bit-with (setOf n t) n n ∙ rw (eq-eqb n n refl, e) (or-true (bit (setOf n t) n)))
+      (λ k ne. bit-with (setOf n t) n k ∙ rw (ne-eqb n k ne) (or-false (bit (setOf n t) k)))
+
+  pub setOf-same : t n ≡ false → setOf (n + 1) t ≡ setOf n t
+  setOf-same e = next-set (setOf n t) (bit-setOf n t n ∙ rw (le-ltb n n (omega arith)) (sym e)) (λ k ne. refl)
+
+-- ---- parts of a set
+
+-- a part of a set is no greater a word
+pub part-at-most : (a b : ℕ) → ((k : ℕ) → bit a k ≡ true → bit b k ≡ true) → a ≤ b
+unfolding intersection
+part-at-most a b inside =
+    let same : a ≡ intersection a b = bit-ext a (intersection a b) λ k. sym (bit-intersection a b k ∙ both (bit a k) (bit b k) (inside k)) in
+    subst⁻¹ (λ x. x ≤ b) same (and-le-r a b)
+  where
+    both : (s t : Bool) → (s ≡ true → t ≡ true) → (s && t) ≡ s
+    both true t h = h refl
+    both false t h = refl
 
 -- ---- the code's shifts and masks
 

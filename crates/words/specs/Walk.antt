@@ -12,7 +12,7 @@ use lib.Count.{trailingZeros, under}
 use lib.Dec.{eqb}
 use borrow.Author.Tests.{eq-eqb, ne-eqb}
 use Rattle.words.specs.Bit.{bit, singleton, difference, without, Lowest}
-use Rattle.words.specs.BitLaws.{bit-low, bit-half, bit-zero, bit-without}
+use Rattle.words.specs.BitLaws.{bit-low, bit-half, bit-zero, bit-without, without-lt}
 
 pub trailing-lowest : (n w : ℕ) → w ≢ 0 → w < 2 ^ n → Lowest n w (trailingZeros n w)
 unfolding trailingZeros
@@ -51,6 +51,17 @@ module _ (n w k : ℕ) (fits : w < 2 ^ n) (width : k < n) where
   pub without-other : (j : ℕ) → j ≢ k → bit (without n w k) j ≡ bit w j
   without-other j ne = bit-without n w k j fits width ∙ rw (ne-eqb k j (λ e. ne (sym e))) (and-true (bit w j))
 
+  -- nothing comes in
+  pub without-inside : (j : ℕ) → bit (without n w k) j ≡ true → bit w j ≡ true
+  without-inside j e = go (ℕ-discrete j k)
+    where
+      go : Dec (j ≡ k) → bit w j ≡ true
+      go (yes s) =
+          let out : bit (without n w k) j ≡ false = ap (bit (without n w k)) s ∙ without-self in
+          let clash : _≡_ {A = ℕ} 0 1 = cc in
+          absurd (omega arith)
+      go (no ne) = sym (without-other j ne) ∙ e
+
   -- so the word gets smaller, and a walk ends
   pub without-falls : bit w k ≡ true → without n w k < w
   unfolding without difference
@@ -68,6 +79,31 @@ module _ (n w k : ℕ) (fits : w < 2 ^ n) (width : k < n) where
       go (yes e) = subst⁻¹ P e now
       go (no ne) = before j s (sym (without-other j ne) ∙ out)
 
+-- a walk that takes out the least member ends
+pub walk-falls : {n w k next : ℕ} → w < 2 ^ n → Lowest n w k → next ≡ without n w k → next < w
+walk-falls {n} {w} {k} fits l e = rw e (without-falls n w k fits (l .width) (l .member))
+
 -- nothing is left of an empty set
 pub all-out : (P : ℕ → Type 0) (S : ℕ → Bool) → ((j : ℕ) → S j ≡ true → bit 0 j ≡ false → P j) → (j : ℕ) → S j ≡ true → P j
 all-out P S h j s = h j s (bit-zero j)
+
+-- A walk over the numbers that have P: those that are left to be visited have it, and at all the others Q has been shown.
+pub record Left (n : ℕ) (P Q : ℕ → Type 0) (left : ℕ) : Type 0 where
+  pub width : left < 2 ^ n
+  pub member : (x : ℕ) → bit left x ≡ true → P x
+  pub done : (x : ℕ) → P x → bit left x ≡ false → Q x
+
+pub visited : (n : ℕ) (P Q : ℕ → Type 0) (left k : ℕ) → Left n P Q left → Lowest n left k → Q k → Left n P Q (without n left k)
+visited n P Q left k h low q =
+    record {
+      width = without-lt n left k (h .width);
+      member = λ x e. h .member x (without-inside n left k (h .width) (low .width) x e);
+      done = λ x p e. go x p e (ℕ-discrete x k);
+    }
+  where
+    go : (x : ℕ) → P x → bit (without n left k) x ≡ false → Dec (x ≡ k) → Q x
+    go x p e (yes r) = subst⁻¹ Q r q
+    go x p e (no ne) = h .done x p (sym (without-other n left k (h .width) (low .width) x ne) ∙ e)
+
+pub none-left : (n : ℕ) (P Q : ℕ → Type 0) → Left n P Q 0 → (x : ℕ) → P x → Q x
+none-left n P Q h x p = h .done x p (bit-zero x)

@@ -9,7 +9,7 @@ use lib.IntN.{ℤ}
 use lib.Signed.{leZ, ltZ, _≤ℤ_, _<ℤ_}
 use borrow.Author.Count.{below-more}
 use borrow.Author.Tests.{leb-true, le-leb, ltb-true, lt-ltb, eqb-true, eq-eqb, not-true}
-use Rattle.minutes.specs.Bools.{is-false, refuted, and-parts, and-both}
+use Rattle.minutes.specs.Bools.{clash, is-false, refuted, and-parts, and-both, same-tests}
 use Rattle.minutes.specs.Linear.{whole}
 use Rattle.board.specs.Paper.View.{View, Live, Valid}
 use Rattle.board.specs.Tests.Live.{live, valid, live-yes, live-show, valid-yes, valid-show}
@@ -30,6 +30,17 @@ restated d f g = record { yes = λ e. f (d .yes e); show = λ q. d .show (g q) }
 pub retested : {s t : Bool} {P : Type 0} → s ≡ t → Decides t P → Decides s P
 retested e d = record { yes = λ x. d .yes (sym e ∙ x); show = λ p. e ∙ d .show p }
 
+-- tests that decide the same are the same
+pub same-decision : {s t : Bool} {P : Type 0} → Decides s P → Decides t P → s ≡ t
+same-decision {s} {t} d e = same-tests s t (λ h. e .show (d .yes h)) (λ h. d .show (e .yes h))
+
+-- a test whose outcome is known
+pub passed : {P : Type 0} → P → Decides true P
+passed p = record { yes = λ e. p; show = λ q. refl }
+
+pub failed : {P : Type 0} → (P → ⊥) → Decides false P
+failed n = record { yes = λ e. clash (cc); show = λ p. absurd (n p) }
+
 infixl 35 _and_
 pub _and_ : {s t : Bool} {P Q : Type 0} → Decides s P → Decides t Q → Decides (s && t) (P × Q)
 _and_ {s} {t} d e =
@@ -37,6 +48,13 @@ _and_ {s} {t} d e =
       yes = λ h. let (p, q) = and-parts s t h in (d .yes p, e .yes q);
       show = λ h. and-both s t (d .show (h .0)) (e .show (h .1));
     }
+
+-- the outcome of `s && t` is that of t where s holds, and that of s where it fails
+pub second-asked : {s t : Bool} {P Q : Type 0} → s ≡ true → Decides s P → Decides t Q → Decides t (P × Q)
+second-asked h d e = rw h at (d and e)
+
+pub first-failed : {s : Bool} {P Q : Type 0} → s ≡ false → Decides s P → Decides s (P × Q)
+first-failed h d = record { yes = λ e. absurd (refuted h e); show = λ p. d .show (p .0) }
 
 pub implied : {s t : Bool} {P Q : Type 0} → Decides s P → Decides t Q → Decides (implies s t) (P → Q)
 unfolding implies

@@ -33,18 +33,18 @@ decides-time z = restated (decides-between _ _ z) (λ h. omega whole) (λ h. ome
 pub decides-length : (z : ℤ) → Decides (isLength z) (IsLength z)
 decides-length z = restated (decides-between _ _ z) (λ h. omega whole) (λ h. omega whole)
 
-decides-zero : (z : ℤ) → Decides (isZero z) (z ≡ pos 0)
+pub decides-zero : (z : ℤ) → Decides (isZero z) (z ≡ pos 0)
 unfolding isZero
 decides-zero z = record { yes = λ e. omega whole; show = λ h. omega whole }
 
-decides-fits : (r : Row) → Decides (fits r) (Fits r)
+pub decides-fits : (r : Row) → Decides (fits r) (Fits r)
 unfolding fits
 decides-fits r =
     restated (decides-length (r .length) and decides-time (r .earliest) and decides-time (r .latest))
     (λ h. omega whole)
     (λ h. omega whole)
 
-decides-zeroRow : (m : ℕ) (r : Row) → Decides (isZeroRow m r) (r ≡ zeroRow m)
+pub decides-zeroRow : (m : ℕ) (r : Row) → Decides (isZeroRow m r) (r ≡ zeroRow m)
 unfolding isZeroRow
 decides-zeroRow m r =
     restated (eq (r .mark) m and decides-zero (r .length) and decides-zero (r .earliest) and decides-zero (r .latest))
@@ -173,27 +173,31 @@ module _ (n : ℕ) (words : List ℕ) (within : Inside n words) where
 
 -- ---- from what is tested to the limits, and back
 
+-- past the 64 places everything reads 0
+pub past : {A : Type 0} (xs : List A) (d : A) → length xs ≡ jobLimit → (k : ℕ) → jobLimit ≤ k → getD xs k d ≡ d
+past xs d e k l = List·getD-eq-default xs d (omega arith)
+
+pub past-row : (b : Board) → Shape b → (k : ℕ) → jobLimit ≤ k → rowOf b k ≡ zeroRow 0
+past-row b s k l i =
+    record {
+      mark = past (b .marks) 0 (s .marks) k l i;
+      length = past (b .lengths) (pos 0) (s .lengths) k l i;
+      earliest = past (b .earliest) (pos 0) (s .earliest) k l i;
+      latest = past (b .latest) (pos 0) (s .latest) k l i;
+    }
+
 module _ (b : Board) (t : Tested b) where
   -- a place past the jobs, also one past the 64
   blank : (k : ℕ) → b .jobs ≤ k → Blank b k
   blank k l = go (decLt k jobLimit)
     where
-      past : {A : Type 0} (xs : List A) (d : A) → length xs ≡ jobLimit → ¬ (k < jobLimit) → getD xs k d ≡ d
-      past xs d e h = List·getD-eq-default xs d (omega arith)
-
       go : Dec (k < jobLimit) → Blank b k
       go (yes h) = t .blank k h l
       go (no h) =
           record {
-            row = λ i.
-                record {
-                  mark = past (b .marks) 0 (t .shape .marks) h i;
-                  length = past (b .lengths) (pos 0) (t .shape .lengths) h i;
-                  earliest = past (b .earliest) (pos 0) (t .shape .earliest) h i;
-                  latest = past (b .latest) (pos 0) (t .shape .latest) h i;
-                };
-            after = past (b .after) 0 (t .shape .after) h;
-            before = past (b .before) 0 (t .shape .before) h;
+            row = past-row b (t .shape) k (omega arith);
+            after = past (b .after) 0 (t .shape .after) k (omega arith);
+            before = past (b .before) 0 (t .shape .before) k (omega arith);
           }
 
   tested-within : Within b
@@ -256,7 +260,7 @@ within-tested b w =
     before : Inside (b .jobs) (b .before)
     before k i e = let (x, y, n) = w .limits .arcs i k (sym (w .twice i k) ∙ e) in (y .0, x .0)
 
-decides-limits : (b : Board) → Decides (withinLimits b) (Within b)
+pub decides-limits : (b : Board) → Decides (withinLimits b) (Within b)
 decides-limits b = restated (decides-tested b) (tested-within b) (within-tested b)
 
 pub limits-yes : (b : Board) → withinLimits b ≡ true → Within b

@@ -5,13 +5,13 @@ use mathlib.Core.Bool.{true}
 use Prim.Native.Nat.{ℕ, _<_, _≤_, _^_}
 use native.Mathlib.Decide.{ℕ-discrete, decLt}
 use native.Mathlib.Omega.{arith}
-use lib.IntN.{pos}
+use lib.IntN.{pos, _+ℤ_}
 use lib.ListN.{getD}
 use lib.Signed.{_≤ℤ_}
 use Rattle.words.specs.Bit.{bit}
 use Rattle.words.specs.BitLaws.{bits-bound}
 use Rattle.minutes.specs.Bools.{is-false}
-use Rattle.minutes.specs.Linear.{whole}
+use Rattle.minutes.specs.Linear.{whole, plus}
 use Rattle.minutes.specs.Time.{Moderate}
 use Rattle.board.specs.declared.Board.{Board}
 use Rattle.board.specs.Paper.View.{Row, view, rowOf}
@@ -75,3 +75,8 @@ time-moderate t = (omega (whole, t .low), omega (whole, t .high))
 
 pub length-moderate : {r : Row} → Ranges r → Moderate (r .length)
 length-moderate h = (omega (whole, h .low), omega (whole, h .high))
+
+pub end-moderate : {r : Row} → Ranges r → Moderate (r .earliest +ℤ r .length)
+end-moderate {r} h =
+    let sum = plus (r .earliest) (r .length) in
+    (omega (whole, sum, h .earliest .low, h .low), omega (whole, sum, h .earliest .high, h .high))

@@ -1,0 +1,57 @@
+-- What a search for the next inference says, at one job, at one pair of jobs and over the whole view. Any way of searching
+-- that says this serves the closure and check 0.
+use mathlib.Core.Path.{_≡_}
+use mathlib.Core.Logic.{_≢_}
+use mathlib.Core.Bool.{Bool}
+use mathlib.Core.Option.{Option, none, some}
+use Prim.Native.Nat.{ℕ}
+use lib.IntN.{ℤ, _+ℤ_}
+use lib.Signed.{_≤ℤ_, _<ℤ_}
+use Rattle.minutes.specs.Linear.{whole}
+use Rattle.board.specs.Paper.View.{View, Live, Valid, Arc, Side, bound}
+use Rattle.board.specs.Paper.Facts.{Fact, Holds}
+use Rattle.board.specs.Paper.Rules.{E, D, L, energy}
+use Rattle.board.specs.Inference.Infers.{Pushing, Infers, r1, r2, r3, r45, r6, Obeys}
+
+-- what is found is inferred and not shown yet; where nothing is found, Q holds
+abbrev pub Searched : View → Type 0 → Option Fact → Type 0
+Searched v Q none = Q
+Searched v Q (some f) = Infers v f × (Holds v f → ⊥)
+
+module _ (v : View) where
+  -- the view shows what R4, R5 and R6 infer of job i
+  pub record JobObeys (i : ℕ) : Type 0 where
+    pub room : D v i <ℤ (E v i +ℤ L v i) → ⊥
+    pub pushed : (s : Side) (S : ℕ → Bool) (m : ℤ) → Pushing v s i S m → (m +ℤ energy v S) ≤ℤ bound s (v .row i)
+
+  -- the view shows what R1, through k, R2 and R3 infer of i and another job k
+  pub record PairObeys (i k : ℕ) : Type 0 where
+    pub join : Valid v k → Arc v i k → (c : ℕ) → Arc v k c → i ≢ c → Arc v i c
+    pub exclude : Valid v i → Arc v i k → Arc v k i → ⊥
+    pub order : D v k <ℤ (E v i +ℤ L v i +ℤ L v k) → Arc v k i
+
+  -- a row of the pairs
+  pub record RowObeys (i : ℕ) : Type 0 where
+    pub job : JobObeys i
+    pub pairs : (k : ℕ) → Live v k → i ≢ k → PairObeys i k
+
+  -- nothing can be inferred of a pair that is joined one way alone, from k to i
+  pub joined-obeys : (i k : ℕ) → (Arc v i k → ⊥) → Arc v k i → PairObeys i k
+  joined-obeys i k apart arc =
+      record {
+        join = λ _ forth. absurd (apart forth);
+        exclude = λ _ forth. absurd (apart forth);
+        order = λ _. arc;
+      }
+
+  -- row by row, the rules are obeyed
+  pub rows-obey : ((i k : ℕ) → Arc v i k → Live v i × Live v k × (i ≢ k)) → ((i : ℕ) → Live v i → RowObeys i) → Obeys v
+  rows-obey joins rows _ (r1 a b c la vb lc ne ab bc) =
+      let (_, lb, ab-ne) = joins a b ab in
+      (la .0, lc .0, λ _ _. rows a la .pairs b lb ab-ne .join vb ab c bc ne)
+  rows-obey joins rows _ (r2 a b va lb ab ba) =
+      let (la, _, ne) = joins a b ab in
+      absurd (rows a la .pairs b lb ne .exclude va ab ba)
+  rows-obey joins rows _ (r3 a b la lb ne h) = (lb .0, la .0, λ _ _. rows a la .pairs b lb ne .order h)
+  rows-obey joins rows _ (r45 s j S m lj p) = (lj .0, λ _. rows j lj .job .pushed s S m p)
+  rows-obey joins rows _ (r6 j lj h) = absurd (rows j lj .job .room h)
