@@ -20,5 +20,7 @@ pub mod PairSearched
 pub mod PairsWalk
 pub mod Measure
 pub mod Closes
+pub mod Stepping
+pub mod Applies
 pub mod Checked
 pub mod ClosureLeast

@@ -60,7 +60,7 @@ slack-is s r h =
     let sum = plus lastMinute (negℤ z) in
     omega (whole, none-below (lastMinute -ℤ z) (omega (whole, sum, minus z)), sum, minus z)
 
-bound-time : (s : Side) (r : Row) → Fits r → IsTime (bound s r)
+pub bound-time : (s : Side) (r : Row) → Fits r → IsTime (bound s r)
 bound-time early r f = f .earliest
 bound-time late r f = omega (whole, minus (r .latest), f .latest .low, f .latest .high)
 

@@ -1,0 +1,93 @@
+-- `closure::close::closure` meets its contract: whichever inferences come first, the board stays below every closed board above
+-- the one handed in. The measure is the board's own. Assumes nothing.
+use mathlib.Core.Path.{sym, _∙_}
+use Prim.Native.Nat.{_<_}
+use borrow.Author.Needs.{needs}
+use borrow.Author.Tests.{not-true, not-false}
+use Rattle.board.specs.Paper.View.{view}
+use Rattle.board.specs.Paper.Facts.{Holds}
+use Rattle.board.specs.Paper.Values.{factOf}
+use Rattle.board.specs.Inference.Infers.{Infers}
+use Rattle.closure.specs.Measure.{measure}
+use Rattle.closure.specs.Applies.{inferred-applies}
+use Rattle.closure.specs.Stepping.{Reached, reached-self, reached-closure, reached-next, reached-none}
+use Rattle.closure.proofs.close.closure.Statement.{statement}
+use Rattle.closure.proofs.close.closure.Tie as tie
+
+abbrev Inv-loop : tie.InvT-loop
+Inv-loop c₀ c = Reached c₀ c
+
+abbrev μ-loop : tie.MeasureT-loop
+μ-loop c₀ c = measure c
+
+loop-holds : tie.Need-loop-holds Inv-loop μ-loop
+loop-holds c = reached-self _ (c .pre)
+
+find-requires : tie.Need-find-requires Inv-loop μ-loop
+find-requires c κs = c .loop .inv .more .within
+
+enum-known-found : tie.Need-enum-known-found Inv-loop μ-loop
+enum-known-found c = search needs
+
+enum-told : tie.Need-enum-told Inv-loop μ-loop
+enum-told c = search needs
+
+returns : tie.Need-returns Inv-loop μ-loop
+returns c =
+    let l = c .before .before .before in
+    reached-closure _ _ (l .before .pre) (l .loop .inv) (rw (c .enum-told .given .1) at (c .before .before .find .ensures))
+
+-- what is found is inferred and not shown
+unshown : (c : tie.After-found Inv-loop μ-loop)
+    → let v = view (c .before .before .before .loop .c) in
+    let f = factOf (c .found .given .0 .0) in
+    Infers v f × (Holds v f → ⊥)
+unshown c = rw (c .found .given .1) at (c .before .before .find .ensures)
+
+update-requires : tie.Need-update-requires Inv-loop μ-loop
+update-requires c κs =
+    let (infers, new) = unshown (c .before) in
+    inferred-applies _ (c .before .before .before .before .loop .inv .more .within) _ infers new
+
+returns-2 : tie.Need-returns-2 Inv-loop μ-loop
+returns-2 c =
+    let next = c .before .before .update in
+    let found = c .before .before .before .before in
+    let l = found .before .before .before in
+    let failed = not-true (next .result .possible) (c .if1 .taken) in
+    next .ensures ∙ reached-none _ _ (l .before .pre) (l .loop .inv) _ (unshown found .0) (sym (rw failed at (next .ensures)))
+
+-- a turn that finds something and goes on
+stepped : (c : tie.Else1 Inv-loop μ-loop)
+    → let l = c .before .before .before .before .before .before .before in
+    let d = c .before .before .update .result .board in
+    Reached (l .before .args .b) d × (measure d < measure (l .loop .c))
+stepped c =
+    let next = c .before .before .update in
+    let found = c .before .before .before .before in
+    let l = found .before .before .before in
+    let (infers, new) = unshown found in
+    let possible = not-false (next .result .possible) (c .if1 .left) in
+    reached-next _ _ (l .before .pre) (l .loop .inv) _ infers new _ (sym (rw possible at (next .ensures)))
+
+loop-less : tie.Need-loop-less Inv-loop μ-loop
+loop-less c = stepped (c .before) .1
+
+loop-again : tie.Need-loop-again Inv-loop μ-loop
+loop-again c = stepped (c .before) .0
+
+pub closure-spec : {M : Type 1} → statement M
+closure-spec =
+    tie.close
+    (tie.spec
+    Inv-loop
+    μ-loop
+    loop-holds
+    find-requires
+    enum-known-found
+    enum-told
+    returns
+    update-requires
+    returns-2
+    loop-less
+    loop-again)

@@ -1,0 +1,23 @@
+// Check 0: "the board handed in breaks a limit above, keeps something twice that doesn't agree, or isn't closed over what it
+// shows".
+use crate::find::Found;
+use crate::find::find;
+use crate::limits::within_limits;
+use board::Board;
+ghost use mathlib.Core.Path.{_≡_};
+ghost use Rattle.closure.specs.Check as check;
+
+// A board within its limits is closed over what it shows where nothing is left to infer.
+pub fn passes(b: Board) -> bool
+    ensures { λ r. ⌜ r ≡ check.passes b ⌝ }
+{
+    if !within_limits(b) {
+        return false;
+    }
+    let found = find(b);
+    if let Found::Nothing = found {
+        true
+    } else {
+        false
+    }
+}
