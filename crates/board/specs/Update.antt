@@ -1,13 +1,10 @@
 -- Updates by one fact or one job: the least board above that shows it.
 pub mod Updates
-pub mod Windows
-pub mod Applicable
 pub mod Extension
 pub mod Compose
 pub mod Stores
 pub mod Limits
 pub mod Order
 pub mod Rows
-pub mod WindowLaws
 pub mod Updated
 pub mod Appended

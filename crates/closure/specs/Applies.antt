@@ -17,7 +17,7 @@ use Rattle.board.specs.Paper.Values.{sideOf, turned, factOf}
 use Rattle.board.specs.Inference.Infers.{Infers, r45}
 use Rattle.board.specs.Inference.Forced.{valid-live}
 use Rattle.board.specs.Tests.Ranges.{ranges}
-use Rattle.board.specs.Update.Applicable.{Timely, Applicable}
+use Rattle.updates.specs.Applicable.{Timely, Applicable}
 use Rattle.closure.specs.FindSound.{infers-known}
 use Rattle.closure.specs.Measure.{bound-time}
 

@@ -1,9 +1,9 @@
 // Check 0: "the board handed in breaks a limit above, keeps something twice that doesn't agree, or isn't closed over what it
 // shows".
-use crate::find::Found;
-use crate::find::find;
-use crate::limits::within_limits;
 use board::Board;
+use limits::within_limits;
+use search::Found;
+use search::find;
 ghost use mathlib.Core.Path.{_≡_};
 ghost use Rattle.closure.specs.Check as check;
 

@@ -1,11 +1,11 @@
 // The closure: the rules applied until nothing is left to infer, or a mark would have to change.
-use crate::find::Found;
-use crate::find::find;
 use board::Board;
-use board::update::Outcome;
+use search::Found;
+use search::find;
+use updates::Outcome;
 ghost use mathlib.Core.Path.{_≡_};
 ghost use Rattle.board.specs.Paper.Limits.{Within};
-ghost use Rattle.board.specs.Paper.Values.{outcomeOf};
+ghost use Rattle.updates.specs.Outcome.{outcomeOf};
 ghost use Rattle.closure.specs.Closing as closing;
 
 // Which inference comes first doesn't matter: any run of them ends in the same board.
@@ -22,7 +22,7 @@ pub fn closure(b: Board) -> Outcome
                 board: c,
             };
         };
-        let next = c.update(fact);
+        let next = updates::update(c, fact);
         if !next.possible {
             return next;
         }

@@ -1,7 +1,3 @@
 // The closure of a board: finding what a rule infers, applying it, and repeating the two; and check 0.
 pub mod check;
 pub mod close;
-pub mod energy;
-pub mod find;
-pub mod limits;
-pub mod marked;

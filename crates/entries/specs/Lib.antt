@@ -18,5 +18,5 @@ pub mod Exactly
 pub mod Unaltered
 pub mod HandedIn
 pub mod Boundaries
+
 -- what the proofs of the code stand on
-pub mod Natural

@@ -17,7 +17,7 @@ use Rattle.entries.specs.declared.Entered.{Entered}
 use Rattle.entries.specs.Paper.Entry.{Entry, withEntry}
 use Rattle.entries.specs.Paper.Gate.{checks, gate}
 use Rattle.entries.specs.Allowed.{gate-allows}
-use Rattle.entries.specs.Paper.Enter.{closureWith, refused, concluded, judged, enter}
+use Rattle.entries.specs.Paper.Enter.{closureWith, acceptance, refused, concluded, judged, enter}
 use Rattle.entries.specs.Settles.{SettledTo, settles}
 use Rattle.entries.specs.Reached.{Reached, reached-with, impossible-with}
 use Rattle.entries.specs.Paper.Exact.{Ends, Outcome, by-table, impossible, accepted}
@@ -31,7 +31,7 @@ reached-least es b r =
     below-least es b (record { within = r .within; shows = r .shows; rules = obeys-rules (view b) (r .obeys) }) (r .below)
 
 module _ (es : Entries) (b : Board) (e : Entry) (r : Reached es b) where
-  settled : gate (checks (b .jobs) e) ≡ none → (o : Option Board) → SettledTo b e o → Step es b e (concluded b e o)
+  settled : gate (checks (b .jobs) e) ≡ none → (o : Option Board) → SettledTo b e o → Step es b e (concluded b (acceptance (b .jobs) e) o)
   settled g none s = impossible g (impossible-with es b e r s)
   settled g (some c) s = accepted g c (reached-with es b e r c s) (s .more .tally)
 

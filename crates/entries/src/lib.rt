@@ -1,6 +1,4 @@
 // What the calls on a board hand back.
-pub mod gate;
-
 use board::Board;
 use board::Refusal;
 

@@ -1,10 +1,6 @@
 -- What the values of the code's types stand for in the paper.
-use mathlib.Core.Bool.{cond}
-use mathlib.Core.Option.{Option, none, some}
 use Prim.Native.Nat.{ℕ}
 use lib.IntN.{ℤ, negℤ}
-use Rattle.board.specs.declared.Board.{Board}
-use Rattle.board.specs.declared.update.Outcome.{Outcome}
 use Rattle.board.specs.declared.facts.Side as Sides
 use Rattle.board.specs.declared.facts.Fact as Facts
 use Rattle.board.specs.Paper.View.{Side, early, late}
@@ -24,7 +20,3 @@ factOf (Facts.the-variants.Arc i k) = is-arc i k
 factOf (Facts.the-variants.Bound s j t) = is-bound (sideOf s) j (turned (sideOf s) t)
 factOf (Facts.the-variants.Valid j) = is-valid j
 factOf (Facts.the-variants.Invalid j) = is-invalid j
-
--- the board after a step, or none for a contradiction
-abbrev pub outcomeOf : Outcome → Option Board
-outcomeOf r = cond (r .possible) (some (r .board)) none

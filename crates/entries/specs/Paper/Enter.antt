@@ -54,15 +54,15 @@ acceptance n (other s) = Answers.Accepted
 abbrev pub refused : Refusal → Board → Entered
 refused r b = record { answer = Answers.Refused r; board = b }
 
--- "number 8 adds one to the tally"
-abbrev pub concluded : Board → Entry → Option Board → Entered
-concluded b e none = refused Refused.Impossible (counted b)
-concluded b e (some c) = record { answer = acceptance (b .jobs) e; board = c }
+-- what the closure says: acceptance as answer a; or refusal 8, and "number 8 adds one to the tally"
+abbrev pub concluded : Board → Answer → Option Board → Entered
+concluded b a none = refused Refused.Impossible (counted b)
+concluded b a (some c) = record { answer = a; board = c }
 
 -- the first check of the table that is met, or the closure
 abbrev pub judged : Board → Entry → Option Refusal → Entered
 judged b e (some r) = refused r b
-judged b e none = concluded b e (closureWith b e)
+judged b e none = concluded b (acceptance (b .jobs) e) (closureWith b e)
 
 -- "Checks go 0, [..] then 1 to 9, as far as a call has them."
 unfoldable pub enter : Board → Entry → Entered

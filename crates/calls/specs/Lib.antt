@@ -1,0 +1,2 @@
+-- The entry calls as code.
+pub mod Called

@@ -1,0 +1,92 @@
+// A dock with its board, and the calls that the paper names: the board goes in and comes back with the answer.
+use board::Board;
+use board::Refusal;
+use closure::check::passes;
+use entries::Entered;
+use entries::PairAnswer;
+use entries::RowAnswer;
+ghost use mathlib.Core.Path.{_≡_};
+ghost use Rattle.closure.specs.Check as check;
+ghost use Rattle.entries.specs.Paper.Entry as entry;
+ghost use Rattle.entries.specs.Paper.Enter as paper;
+ghost use Rattle.entries.specs.Paper.Looking as looking;
+
+pub struct Dock {
+    pub board: Board,
+}
+
+impl Dock {
+    // Does the board pass check 0, "breaks a limit above, keeps something twice that doesn't agree, or isn't closed over
+    // what it shows"?
+    fn passes(self) -> bool
+        ensures { λ r. ⌜ r ≡ check.passes (self .board) ⌝ }
+    {
+        passes(self.board)
+    }
+
+    // "Addition: length, E, D, mark 0 or 1; gives the job's number."
+    pub fn addition(self, length: i32, earliest: i32, latest: i32, mark: i32) -> Entered
+        ensures { λ r. ⌜ r ≡ paper.enter (self .board) (entry.addition length earliest latest mark) ⌝ }
+    {
+        if self.passes() {
+            calls::addition(self.board, length, earliest, latest, mark)
+        } else {
+            calls::refused(Refusal::Board, self.board)
+        }
+    }
+
+    // "Arc A to B: if both take place, A ends no later than B starts."
+    pub fn arc(self, from: i32, to: i32) -> Entered
+        ensures { λ r. ⌜ r ≡ paper.enter (self .board) (entry.other (entry.arc from to)) ⌝ }
+    {
+        if self.passes() {
+            calls::arc(self.board, from, to)
+        } else {
+            calls::refused(Refusal::Board, self.board)
+        }
+    }
+
+    // "Mark a job 1 or 2."
+    pub fn mark(self, job: i32, mark: i32) -> Entered
+        ensures { λ r. ⌜ r ≡ paper.enter (self .board) (entry.other (entry.mark job mark)) ⌝ }
+    {
+        if self.passes() {
+            calls::mark(self.board, job, mark)
+        } else {
+            calls::refused(Refusal::Board, self.board)
+        }
+    }
+
+    // "Cut a job with a window E, D: the later E and the earlier D hold."
+    pub fn cut(self, job: i32, earliest: i32, latest: i32) -> Entered
+        ensures { λ r. ⌜ r ≡ paper.enter (self .board) (entry.other (entry.cut job earliest latest)) ⌝ }
+    {
+        if self.passes() {
+            calls::cut(self.board, job, earliest, latest)
+        } else {
+            calls::refused(Refusal::Board, self.board)
+        }
+    }
+
+    // "Row of a job: mark, E, D, the set before it and the set after it."
+    pub fn row(self, job: i32) -> RowAnswer
+        ensures { λ r. ⌜ r ≡ looking.row (self .board) job ⌝ }
+    {
+        if self.passes() {
+            views::row(self.board, job)
+        } else {
+            RowAnswer::Refused(Refusal::Board)
+        }
+    }
+
+    // "Pair of A, B: 0 no arc, 1 A to B, 2 B to A, 3 both; and the gap"
+    pub fn pair(self, a: i32, b: i32) -> PairAnswer
+        ensures { λ r. ⌜ r ≡ looking.pair (self .board) a b ⌝ }
+    {
+        if self.passes() {
+            views::pair(self.board, a, b)
+        } else {
+            PairAnswer::Refused(Refusal::Board)
+        }
+    }
+}

@@ -1,0 +1,150 @@
+-- The energy bound is exact: on any board within its limits, closed or not, the sums over the numbers that the code reads are
+-- those of R4 and R5, so their greatest is the greatest of R4's sums and stands for the least of R5's differences.
+use mathlib.Core.Path.{_≡_, refl}
+use mathlib.Core.Bool.{Bool, true}
+use mathlib.Core.List.{List}
+use mathlib.Core.Option.{Option, none, some}
+use Prim.Native.Nat.{ℕ}
+use native.Mathlib.Omega.{arith}
+use lib.IntN.{ℤ, negℤ, _+ℤ_}
+use lib.Signed.{_≤ℤ_}
+use Rattle.words.specs.Bit.{bit}
+use Rattle.minutes.specs.Bools.{is-false}
+use Rattle.minutes.specs.Linear.{whole, plus, minus}
+use Rattle.minutes.specs.Sum.{total, total-more}
+use Rattle.board.specs.declared.Board.{Board}
+use Rattle.board.specs.Paper.View.{View, Valid, Arc, Side, early, late, bound, Beyond, view, rowOf}
+use Rattle.board.specs.Paper.Limits.{Within, jobLimit}
+use Rattle.board.specs.Paper.Rules.{D, energy}
+use Rattle.board.specs.Paper.Energy.{SumR4, DifferenceR5}
+use Rattle.board.specs.Tests.Decides.{Decides}
+use Rattle.board.specs.Tests.Ranges.{ranges}
+use Rattle.energy.specs.declared.EnergyBound.{EnergyBound}
+use Rattle.energy.specs.declared.EnergyBound.the-variants.{Unbounded, At}
+use Rattle.energy.specs.SumBeyond.{SumBeyond}
+use Rattle.energy.specs.Energy.{boundAt, lengthAt, Times, Lengths, Sum, Greatest, boundOf}
+
+-- ---- a board's numbers
+
+-- a board's bounds on side s, as the times that it keeps
+abbrev pub timesOf : Board → Side → List ℤ
+timesOf b early = b .earliest
+timesOf b late = b .latest
+
+pub times-within : (b : Board) → Within b → (s : Side) → Times (timesOf b s)
+times-within b h early = record { time = λ k. ranges b h k .earliest }
+times-within b h late = record { time = λ k. ranges b h k .latest }
+
+pub lengths-within : (b : Board) → Within b → Lengths (b .lengths)
+lengths-within b h = record { low = λ k. ranges b h k .low; high = λ k. ranges b h k .high }
+
+bound-is : (b : Board) (s : Side) (k : ℕ) → boundAt s (timesOf b s) k ≡ bound s (rowOf b k)
+bound-is b early k = refl
+bound-is b late k = refl
+
+-- valid jobs are jobs of the board, so there is nothing to add past them
+energy-is : (b : Board) → Within b → (S : ℕ → Bool) → ((k : ℕ) → S k ≡ true → Valid (view b) k)
+    → total jobLimit S (lengthAt (b .lengths)) ≡ energy (view b) S
+energy-is b h S valid = total-more (b .jobs) jobLimit S (lengthAt (b .lengths)) (h .limits .jobs) λ k l. is-false _ λ e.
+    omega (arith, valid k e .0)
+
+-- ---- R4 and R5 as one, with a side
+
+greatest-same : (P Q : ℤ → Type 0) → ((z : ℤ) → P z → Q z) → ((z : ℤ) → Q z → P z) → (o : Option ℤ) → Greatest P o → Greatest Q o
+greatest-same P Q f g none h = λ z q. h z (g z q)
+greatest-same P Q f g (some z) h = (f z (h .0), λ y q. h .1 y (g y q))
+
+module _ (b : Board) (h : Within b) (s : Side) (j w : ℕ) (members : (k : ℕ) → Decides (bit w k) (Valid (view b) k × Beyond (view b) s k j)) where
+  sum-beyond : (z : ℤ) → Sum s (timesOf b s) (b .lengths) w z → SumBeyond (view b) s j z
+  sum-beyond z p =
+      let valid : (k : ℕ) → p .set k ≡ true → Valid (view b) k × Beyond (view b) s k j = λ k e. members k .yes (p .inside k e) in
+      record {
+        set = p .set;
+        beyond = valid;
+        first = p .first;
+        member = p .member;
+        least = λ k e. omega (whole, p .least k e, bound-is b s (p .first), bound-is b s k);
+        is = cc (p .is, bound-is b s (p .first), energy-is b h (p .set) (λ k e. valid k e .0));
+      }
+
+  beyond-sum : (z : ℤ) → SumBeyond (view b) s j z → Sum s (timesOf b s) (b .lengths) w z
+  beyond-sum z p =
+      record {
+        set = p .set;
+        inside = λ k e. members k .show (p .beyond k e);
+        first = p .first;
+        member = p .member;
+        least = λ k e. omega (whole, p .least k e, bound-is b s (p .first), bound-is b s k);
+        is = cc (p .is, bound-is b s (p .first), energy-is b h (p .set) (λ k e. p .beyond k e .0));
+      }
+
+  pub greatest-beyond : (o : Option ℤ) → Greatest (Sum s (timesOf b s) (b .lengths) w) o → Greatest (SumBeyond (view b) s j) o
+  greatest-beyond = greatest-same _ _ sum-beyond beyond-sum
+
+-- ---- in the paper's words
+
+-- the least number that has the property P; none where no number has it
+abbrev pub Least : (ℤ → Type 0) → Option ℤ → Type 0
+Least P none = (z : ℤ) → P z → ⊥
+Least P (some z) = P z × ((y : ℤ) → P y → z ≤ℤ y)
+
+-- the time that an answer gives
+abbrev pub timeOf : EnergyBound → Option ℤ
+timeOf Unbounded = none
+timeOf (At t) = some t
+
+beyond-R4 : (v : View) (b : ℕ) (z : ℤ) → SumBeyond v early b z → SumR4 v b z
+beyond-R4 v b z p =
+    record { set = p .set; before = p .beyond; first = p .first; member = p .member; least = p .least; is = p .is }
+
+R4-beyond : (v : View) (b : ℕ) (z : ℤ) → SumR4 v b z → SumBeyond v early b z
+R4-beyond v b z p =
+    record { set = p .set; beyond = p .before; first = p .first; member = p .member; least = p .least; is = p .is }
+
+module _ (v : View) (a : ℕ) (z : ℤ) where
+  beyond-R5 : SumBeyond v late a (negℤ z) → DifferenceR5 v a z
+  beyond-R5 p =
+      let d = D v (p .first) in
+      let e = energy v (p .set) in
+      record {
+        set = p .set;
+        after = p .beyond;
+        last = p .first;
+        member = p .member;
+        greatest = λ k i. omega (whole, p .least k i, minus d, minus (D v k));
+        is = omega (whole, p .is, minus z, minus d, minus e, plus (negℤ d) e, plus d (negℤ e));
+      }
+
+  R5-beyond : DifferenceR5 v a z → SumBeyond v late a (negℤ z)
+  R5-beyond p =
+      let d = D v (p .last) in
+      let e = energy v (p .set) in
+      record {
+        set = p .set;
+        beyond = p .after;
+        first = p .last;
+        member = p .member;
+        least = λ k i. omega (whole, p .greatest k i, minus d, minus (D v k));
+        is = omega (whole, p .is, minus z, minus d, minus e, plus (negℤ d) e, plus d (negℤ e));
+      }
+
+-- "E of a live B is at least (least E in S) + (sum of lengths in S) for each non-empty set S of valid jobs with arcs to B":
+-- at side early the answer is the greatest of these sums, and none exactly where there is no such set.
+pub raise-exact : (b : Board) → Within b → (j w : ℕ) → ((k : ℕ) → Decides (bit w k) (Valid (view b) k × Arc (view b) k j))
+    → (r : EnergyBound) → Greatest (Sum early (b .earliest) (b .lengths) w) (boundOf early r) → Greatest (SumR4 (view b) j) (timeOf r)
+raise-exact b h j w members r g = go r (greatest-beyond b h early j w members (boundOf early r) g)
+  where
+    go : (r : EnergyBound) → Greatest (SumBeyond (view b) early j) (boundOf early r) → Greatest (SumR4 (view b) j) (timeOf r)
+    go Unbounded g = greatest-same _ _ (beyond-R4 (view b) j) (R4-beyond (view b) j) none g
+    go (At t) g = greatest-same _ _ (beyond-R4 (view b) j) (R4-beyond (view b) j) (some t) g
+
+-- "D of a live A is at most (greatest D in S) - (sum of lengths in S) for each non-empty set S of valid jobs that A has arcs
+-- to": at side late the answer is the least of these differences, and none exactly where there is no such set.
+pub lower-exact : (b : Board) → Within b → (j w : ℕ) → ((k : ℕ) → Decides (bit w k) (Valid (view b) k × Arc (view b) j k))
+    → (r : EnergyBound) → Greatest (Sum late (b .latest) (b .lengths) w) (boundOf late r) → Least (DifferenceR5 (view b) j) (timeOf r)
+lower-exact b h j w members r g = go r (greatest-beyond b h late j w members (boundOf late r) g)
+  where
+    go : (r : EnergyBound) → Greatest (SumBeyond (view b) late j) (boundOf late r) → Least (DifferenceR5 (view b) j) (timeOf r)
+    go Unbounded g = λ z p. g (negℤ z) (R5-beyond (view b) j z p)
+    go (At t) g =
+        (beyond-R5 (view b) j t (g .0), λ y p. omega (whole, g .1 (negℤ y) (R5-beyond (view b) j y p), minus y, minus t))

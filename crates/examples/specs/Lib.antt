@@ -1,0 +1,2 @@
+-- Numbers that are written with their sign.
+pub mod Wide

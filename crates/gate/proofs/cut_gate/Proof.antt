@@ -1,0 +1,26 @@
+-- `gate::cut_gate` meets its contract, line by line. Assumes nothing.
+use mathlib.Core.List.{[]}
+use borrow.Author.Needs.{needs}
+use mir.ValLaws.{toZ-ofZ}
+use Rattle.entries.specs.Lines.{no-line}
+use Rattle.gate.proofs.cut_gate.Statement.{statement}
+use Rattle.gate.proofs.cut_gate.Tie as tie
+
+is-job-requires : tie.Need-is-job-requires
+is-job-requires c κs = search needs
+
+window-lines-requires : tie.Need-window-lines-requires
+window-lines-requires c κs = search needs
+
+line-requires : tie.Need-line-requires
+line-requires c κs = search needs
+
+returns : tie.Need-returns
+returns c =
+    let f = c .before .before .before .fits in
+    let job = simp (toZ-ofZ, f .job) at (c .before .before .is-job .ensures) in
+    let window = simp (toZ-ofZ, f .earliest, f .latest) at (c .before .window-lines .ensures [] no-line) in
+    rw (← job) (c .line .ensures _ window)
+
+pub cut-gate-spec : {M : Type 1} → statement M
+cut-gate-spec = tie.close (tie.spec is-job-requires window-lines-requires line-requires returns)

@@ -1,0 +1,3 @@
+-- The gate as code.
+pub mod Values
+pub mod Natural

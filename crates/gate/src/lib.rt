@@ -1,0 +1,139 @@
+// "Refusals by the gate": the checks 1 to 7 of the table in their order, as far as each call has them.
+use board::Board;
+use board::Refusal;
+use board::limits::between;
+use board::limits::is_length;
+use board::limits::is_time;
+ghost use mathlib.Core.Path.{_≡_};
+ghost use mathlib.Core.Bool.{_&&_};
+ghost use mathlib.Core.List.{List, [], _∷_};
+ghost use lib.IntN.{pos};
+ghost use lib.Signed.{_≤ℤ_};
+ghost use Rattle.minutes.specs.Linear.{eqZ};
+ghost use Rattle.board.specs.Tests.Limits as limits;
+ghost use Rattle.entries.specs.Paper.Entry as entry;
+ghost use Rattle.entries.specs.Paper.Gate as paper;
+ghost use Rattle.entries.specs.Paper.Gate.{Check, isJob, jobCheck, pairChecks, timeCheck, windowCheck, checks, gate};
+ghost use Rattle.gate.specs.Values.{refusalOf};
+
+// What the checks say of a call: no refusal, or the first that it meets.
+pub enum Gate {
+    Open,
+    Closed(Refusal),
+}
+
+// A line of the table, and what the lines after it say.
+fn line(refusal: Refusal, met: bool, rest: Gate) -> Gate
+    ensures { λ r. ⌜ ((cs : List Check) → refusalOf rest ≡ gate cs → refusalOf r ≡ gate (paper.line refusal met ∷ cs)) ⌝ }
+{
+    if met { Gate::Closed(refusal) } else { rest }
+}
+
+// A number that is not negative, as the number of a job.
+pub fn index(number: i32) -> usize
+    requires { ⌜ pos 0 ≤ℤ number ⌝ }
+    ensures { λ r. ⌜ r ≡ entry.number number ⌝ }
+{
+    number as usize
+}
+
+// The number of a mark, as the board holds it.
+pub fn mark_value(mark: i32) -> u8
+    requires { ⌜ (pos 0 ≤ℤ mark) × (mark ≤ℤ pos 2) ⌝ }
+    ensures { λ r. ⌜ r ≡ entry.number mark ⌝ }
+{
+    mark as u8
+}
+
+// "numbered from 0"
+fn is_job(jobs: usize, number: i32) -> bool
+    ensures { λ r. ⌜ r ≡ isJob jobs number ⌝ }
+{
+    0 <= number && index(number) < jobs
+}
+
+fn are_jobs(jobs: usize, a: i32, b: i32) -> bool
+    ensures { λ r. ⌜ r ≡ isJob jobs a && isJob jobs b ⌝ }
+{
+    is_job(jobs, a) && is_job(jobs, b)
+}
+
+fn are_times(earliest: i32, latest: i32) -> bool
+    ensures { λ r. ⌜ r ≡ limits.isTime earliest && limits.isTime latest ⌝ }
+{
+    is_time(earliest) && is_time(latest)
+}
+
+fn is_same(a: i32, b: i32) -> bool
+    ensures { λ r. ⌜ r ≡ eqZ a b ⌝ }
+{
+    a <= b && b <= a
+}
+
+// 2 job
+pub fn job_gate(jobs: usize, job: i32) -> Gate
+    ensures { λ r. ⌜ refusalOf r ≡ gate (jobCheck jobs job ∷ []) ⌝ }
+{
+    line(Refusal::Job, !is_job(jobs, job), Gate::Open)
+}
+
+// 2 job, 3 same
+pub fn pair_gate(jobs: usize, a: i32, b: i32) -> Gate
+    ensures { λ r. ⌜ refusalOf r ≡ gate (pairChecks jobs a b) ⌝ }
+{
+    line(
+        Refusal::Job,
+        !are_jobs(jobs, a, b),
+        line(Refusal::Same, is_same(a, b), Gate::Open),
+    )
+}
+
+// 5 time, 6 window, and what the lines after them say
+fn window_lines(earliest: i32, latest: i32, rest: Gate) -> Gate
+    ensures { λ r. ⌜ ((cs : List Check) → refusalOf rest ≡ gate cs → refusalOf r ≡ gate (timeCheck earliest latest ∷ windowCheck earliest latest ∷ cs)) ⌝ }
+{
+    line(
+        Refusal::Time,
+        !are_times(earliest, latest),
+        line(Refusal::Window, latest < earliest, rest),
+    )
+}
+
+// 2 job, 7 mark
+pub fn mark_gate(jobs: usize, job: i32, mark: i32) -> Gate
+    ensures { λ r. ⌜ refusalOf r ≡ gate (checks jobs (entry.other (entry.mark job mark))) ⌝ }
+{
+    let taken = between(Board::VALID as i32, Board::INVALID as i32, mark);
+    line(
+        Refusal::Job,
+        !is_job(jobs, job),
+        line(Refusal::Mark, !taken, Gate::Open),
+    )
+}
+
+// 2 job, 5 time, 6 window
+pub fn cut_gate(jobs: usize, job: i32, earliest: i32, latest: i32) -> Gate
+    ensures { λ r. ⌜ refusalOf r ≡ gate (checks jobs (entry.other (entry.cut job earliest latest))) ⌝ }
+{
+    line(
+        Refusal::Job,
+        !is_job(jobs, job),
+        window_lines(earliest, latest, Gate::Open),
+    )
+}
+
+// 1 full, 4 length, 5 time, 6 window, 7 mark
+pub fn addition_gate(jobs: usize, length: i32, earliest: i32, latest: i32, mark: i32) -> Gate
+    ensures { λ r. ⌜ refusalOf r ≡ gate (checks jobs (entry.addition length earliest latest mark)) ⌝ }
+{
+    let taken = between(Board::UNDECIDED as i32, Board::VALID as i32, mark);
+    line(
+        Refusal::Full,
+        Board::JOBS <= jobs,
+        line(
+            Refusal::Length,
+            !is_length(length),
+            window_lines(earliest, latest, line(Refusal::Mark, !taken, Gate::Open)),
+        ),
+    )
+}

@@ -1,0 +1,16 @@
+-- `limits::is_zero` meets its contract: a number from 0 to 0 is 0. Assumes nothing.
+use mathlib.Core.Path.{_∙_}
+use mir.ValLaws.{toZ-ofZ}
+use borrow.Author.Needs.{needs}
+use Rattle.limits.specs.Limits.{zero-between}
+use Rattle.limits.proofs.is_zero.Statement.{statement}
+use Rattle.limits.proofs.is_zero.Tie as tie
+
+between-requires : tie.Need-between-requires
+between-requires c κs = search needs
+
+returns : tie.Need-returns
+returns c = simp (toZ-ofZ, c .before .fits .z) at (c .between .ensures ∙ zero-between _)
+
+pub is-zero-spec : {M : Type 1} → statement M
+is-zero-spec = tie.close (tie.spec between-requires returns)

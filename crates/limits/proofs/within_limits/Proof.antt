@@ -1,0 +1,56 @@
+-- `limits::within_limits` meets its contract: a board whose jobs or tally are too many is not within its limits, and
+-- of any other the rows and the arcs decide. Assumes nothing.
+use mathlib.Core.Path.{_≡_}
+use mathlib.Core.Bool.{Bool}
+use mathlib.Core.Logic.{⊎-elim}
+use native.Mathlib.Omega.{arith}
+use borrow.Author.Tests.{ltb-true, ltb-false}
+use borrow.Author.Needs.{needs}
+use Rattle.board.specs.Paper.Limits.{Shape}
+use Rattle.board.specs.Tests.Limits.{withinLimits}
+use Rattle.board.specs.Tests.Decides.{Decides, failed, second-asked, first-failed, same-decision}
+use Rattle.board.specs.Tests.LimitsDecided.{decides-limits}
+use Rattle.limits.specs.Limits.{Rows, Arcs, limits-tested}
+use Rattle.limits.proofs.within_limits.Statement.{statement}
+use Rattle.limits.proofs.within_limits.Tie as tie
+
+returns : tie.Need-returns
+returns c =
+    same-decision
+    (failed λ w. ⊎-elim (λ x. omega (arith, w .limits .jobs)) (λ x. omega (arith, w .tally, ltb-true)) (c .if1 .came))
+    (decides-limits _)
+
+rows-hold-requires : tie.Need-rows-hold-requires
+rows-hold-requires c κs = search needs
+
+arcs-hold-requires : tie.Need-arcs-hold-requires
+arcs-hold-requires c κs = search needs
+
+-- where the numbers of the board are in range, the rows and the arcs are left to test
+tested : (c : tie.After-rows-hold) {t : Bool}
+    → let b = c .before .before .before .before .before .args .b in
+    Decides t (Rows b × Arcs b) → t ≡ withinLimits b
+tested c d =
+    let b = c .before .before .before .before .before .args .b in
+    let shape : Shape b =
+    record {
+      lengths = search needs;
+      earliest = search needs;
+      latest = search needs;
+      marks = search needs;
+      after = search needs;
+      before = search needs;
+    } in
+    limits-tested b shape (omega arith) (omega (arith, ltb-false)) d
+
+returns-2 : tie.Need-returns-2
+returns-2 c =
+    tested (c .before .before)
+    (second-asked (c .before .if3 .taken) (c .before .before .rows-hold .ensures) (c .arcs-hold .ensures))
+
+returns-3 : tie.Need-returns-3
+returns-3 c = tested (c .before) (first-failed (c .if3 .left) (c .before .rows-hold .ensures))
+
+pub within-limits-spec : {M : Type 1} → statement M
+within-limits-spec =
+    tie.close (tie.spec returns rows-hold-requires arcs-hold-requires returns-2 returns-3)

@@ -1,0 +1,3 @@
+-- The limits of a board as the code tests them.
+pub mod Marked
+pub mod Limits

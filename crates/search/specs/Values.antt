@@ -1,0 +1,11 @@
+-- What the values of the code's types stand for.
+use mathlib.Core.Option.{Option, none, some}
+use Rattle.board.specs.Paper.Facts.{Fact}
+use Rattle.board.specs.Paper.Values.{factOf}
+use Rattle.search.specs.declared.Found.{Found}
+use Rattle.search.specs.declared.Found.the-variants.{Nothing, Inferred}
+
+-- what a search found
+abbrev pub inferredOf : Found → Option Fact
+inferredOf Nothing = none
+inferredOf (Inferred f) = some (factOf f)

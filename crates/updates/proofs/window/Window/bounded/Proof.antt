@@ -1,0 +1,19 @@
+-- `updates::window::Window::bounded` meets its contract, arm by arm. Assumes nothing.
+use borrow.Author.Needs.{needs}
+use Rattle.updates.proofs.window.Window.bounded.Statement.{statement}
+use Rattle.updates.proofs.window.Window.bounded.Tie as tie
+
+enum-told : tie.Need-enum-told
+enum-told c = search needs
+
+enum-told-2 : tie.Need-enum-told-2
+enum-told-2 c = search needs
+
+returns : tie.Need-returns
+returns c = rw (c .before .enum-told .given .1) (search needs)
+
+returns-2 : tie.Need-returns-2
+returns-2 c = rw (c .before .enum-told2 .given .1) (search needs)
+
+pub bounded-spec : {M : Type 1} → statement M
+bounded-spec = tie.close (tie.spec enum-told enum-told-2 returns returns-2)

@@ -1,0 +1,21 @@
+-- `updates::window::Window::exceeds` meets its contract: each arm compares the times that the machine reads back from their bits,
+-- and the late side turns the order. Assumes nothing.
+use borrow.Author.Needs.{needs}
+use Rattle.updates.specs.WindowLaws.{turned-test}
+use Rattle.updates.proofs.window.Window.exceeds.Statement.{statement}
+use Rattle.updates.proofs.window.Window.exceeds.Tie as tie
+
+enum-told : tie.Need-enum-told
+enum-told c = search needs
+
+enum-told-2 : tie.Need-enum-told-2
+enum-told-2 c = search needs
+
+returns : tie.Need-returns
+returns c = rw (c .before .before .enum-told .given .1) (search needs)
+
+returns-2 : tie.Need-returns-2
+returns-2 c = rw (c .before .before .enum-told2 .given .1) (search (needs, turned-test))
+
+pub exceeds-spec : {M : Type 1} → statement M
+exceeds-spec = tie.close (tie.spec enum-told enum-told-2 returns returns-2)

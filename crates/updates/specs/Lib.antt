@@ -1,0 +1,5 @@
+-- Updates of a board by one fact, as code: the definitions stand in the crate board.
+pub mod Outcome
+pub mod Windows
+pub mod WindowLaws
+pub mod Applicable

@@ -1,0 +1,48 @@
+-- `views::shown_pair` meets its contract: the second job is asked where the first is live. Assumes nothing.
+use mathlib.Core.Path.{sym, _∙_}
+use mathlib.Core.Bool.{and-false}
+use mathlib.Core.Logic.{inl, inr}
+use borrow.Author.Needs.{needs}
+use mir.Syntax.{w32}
+use mir.Val.{SFits}
+use mir.ValLaws.{toZ-ofZ}
+use Rattle.views.proofs.shown_pair.Statement.{statement}
+use Rattle.views.proofs.shown_pair.Tie as tie
+
+is-live-requires : tie.Need-is-live-requires
+is-live-requires c κs = search needs
+
+is-live-requires-2 : tie.Need-is-live-requires-2
+is-live-requires-2 c κs = search needs
+
+shown-arcs-requires : tie.Need-shown-arcs-requires
+shown-arcs-requires c κs = search needs
+
+shown-gap-requires : tie.Need-shown-gap-requires
+shown-gap-requires c κs = search needs
+
+returns : tie.Need-returns
+returns c =
+    let lives = c .before .before in
+    let first = sym (lives .before .before .before .is-live .ensures) ∙ lives .before .before .if1 .taken in
+    let second = sym (lives .before .is-live2 .ensures) ∙ lives .if2 .taken in
+    let gap : SFits w32 (c .shown-gap .result) = search needs in
+    rw (first, second, ← c .before .shown-arcs .ensures, ← c .shown-gap .ensures) (simp (toZ-ofZ, gap))
+
+returns-2 : tie.Need-returns-2
+returns-2 c =
+    elim (c .if1 .came) [
+      | inl w ↦ rw (sym (w .1 .ensures) ∙ w .2 .left, and-false)
+      | inr w ↦ rw (sym (c .before .is-live .ensures) ∙ w .left)
+    ]
+
+pub shown-pair-spec : {M : Type 1} → statement M
+shown-pair-spec =
+    tie.close
+    (tie.spec
+    is-live-requires
+    is-live-requires-2
+    shown-arcs-requires
+    shown-gap-requires
+    returns
+    returns-2)
