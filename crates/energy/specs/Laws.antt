@@ -78,7 +78,7 @@ sum-range {s} {times} {lengths} hours work q =
 -- The jobs `left` of the set are in play, and no set that starts at a struck job gives more than `best`. Before the first round
 -- `best` is a time that no sum falls short of, and then the sum of a set.
 pub record InPlay (s : Side) (times lengths : List ℤ) (set left : ℕ) (best : ℤ) : Type 0 where
-  pub fits : left < 2 ^ 64
+  pub fits : left < 2 ^ jobLimit
   pub inside : (k : ℕ) → bit left k ≡ true → bit set k ≡ true
   pub upward : (x y : ℕ) → bit left x ≡ true → bit set y ≡ true → boundAt s times x ≤ℤ boundAt s times y → bit left y ≡ true
   pub covered : (z : ℤ) (p : Sum s times lengths set z) → bit left (p .first) ≡ false → z ≤ℤ best
@@ -88,7 +88,7 @@ module _ {s : Side} {times lengths : List ℤ} {set : ℕ} where
   pub no-sum : set ≡ 0 → Greatest (Sum s times lengths set) none
   no-sum e z p = refuted (ap (λ w. bit w (p .first)) e ∙ bit-zero (p .first)) (p .inside (p .first) (p .member))
 
-  pub all-in-play : set < 2 ^ 64 → InPlay s times lengths set set firstMinute
+  pub all-in-play : set < 2 ^ jobLimit → InPlay s times lengths set set firstMinute
   all-in-play fits =
       record {
         fits = fits;

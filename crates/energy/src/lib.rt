@@ -5,6 +5,7 @@ ghost use mathlib.Core.Logic.{_≢_};
 ghost use mathlib.Core.Path.{_≡_};
 ghost use Prim.Native.Nat.{_<_};
 ghost use Rattle.minutes.specs.Time.{Moderate};
+ghost use Rattle.board.specs.Paper.Limits.{jobLimit};
 ghost use Rattle.board.specs.Paper.Values as paper;
 ghost use Rattle.energy.specs.Energy as energy;
 
@@ -28,7 +29,7 @@ fn turned(side: Side, time: i32) -> i32
 // The bound that stands at place k.
 fn bound(side: Side, times: &[i32; Board::JOBS], k: usize) -> i32
     requires { ⌜ energy.Times (now times) ⌝ }
-    requires { ⌜ k < 64 ⌝ }
+    requires { ⌜ k < jobLimit ⌝ }
     ensures { λ r. ⌜ r ≡ energy.boundAt (paper.sideOf side) (now (times .entry)) k ⌝ }
 {
     turned(side, times[k])

@@ -10,13 +10,12 @@ use borrow.Author.Tests.{ltb-true}
 use Rattle.minutes.specs.Bools.{clash, and-parts}
 use Rattle.board.specs.declared.Board.{Board}
 use Rattle.board.specs.declared.Refusal.{Refusal}
-use Rattle.board.specs.declared.Refusal.the-variants as Refused
 use Rattle.board.specs.Paper.Refusals.{numberOf}
-use Rattle.entries.specs.declared.Answer.the-variants as Answers
 use Rattle.entries.specs.declared.Entered.{Entered}
 use Rattle.entries.specs.Paper.Entry.{Statement, arc, mark, cut, Entry, addition, other}
 use Rattle.entries.specs.Paper.Gate.{Check, statementChecks, checks, gate}
 use Rattle.entries.specs.Paper.Enter.{acceptance}
+use Rattle.entries.specs.Paper.Answers.{no-number, replyOf}
 use Rattle.entries.specs.Paper.Exact.{Ends, by-table, impossible, accepted}
 
 -- every line's number is below 8
@@ -50,19 +49,15 @@ low-checks n (other s) = low-statement s
 pub by-table-low : (n : ℕ) (e : Entry) (r : Refusal) → gate (checks n e) ≡ some r → numberOf r < 8
 by-table-low n e r g = gate-low (checks n e) r (low-checks n e) g
 
--- a refusal as impossible is none of the table's
-pub not-by-table : (n : ℕ) (e : Entry) (r : Refusal) → gate (checks n e) ≡ some r → r ≡ Refused.Impossible → ⊥
-not-by-table n e r g q =
-    let below : numberOf Refused.Impossible < 8 = subst (λ x. numberOf x < 8) q (by-table-low n e r g) in
-    omega arith
-
-pub not-refused : (n : ℕ) (e : Entry) (r : Refusal) → acceptance n e ≡ Answers.Refused r → ⊥
+pub not-refused : (n : ℕ) (e : Entry) (r : ℕ) → replyOf (acceptance n e) ≡ no-number r → ⊥
 not-refused n (addition l e d m) r q = clash (cc)
 not-refused n (other s) r q = clash (cc)
 
 -- a call that was answered 8 met none of the checks 1 to 7, and the closure with its entry is a contradiction
 pub answered-impossible : (b : Board) (e : Entry) (C : Type 0) (B : Board → Type 0) (x : Entered) → Ends b e C B x
-    → x .answer ≡ Answers.Refused Refused.Impossible → (gate (checks (b .jobs) e) ≡ none) × C
-answered-impossible b e C B _ (by-table r g) q = absurd (not-by-table (b .jobs) e r g (cc))
+    → replyOf (x .answer) ≡ no-number 8 → (gate (checks (b .jobs) e) ≡ none) × C
+answered-impossible b e C B _ (by-table r g) q =
+    let eight : numberOf r ≡ 8 = cc in
+    absurd (omega (arith, by-table-low (b .jobs) e r g))
 answered-impossible b e C B _ (impossible g c) q = (g, c)
-answered-impossible b e C B _ (accepted g c k t) q = absurd (not-refused (b .jobs) e Refused.Impossible q)
+answered-impossible b e C B _ (accepted g c k t) q = absurd (not-refused (b .jobs) e 8 q)

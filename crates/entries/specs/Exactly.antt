@@ -1,5 +1,5 @@
 -- "8 exactly when" the closure is a contradiction; and the board after a refusal.
-use mathlib.Core.Path.{_≡_, refl, subst}
+use mathlib.Core.Path.{_≡_, refl, ap, subst}
 use mathlib.Core.Logic.{_↔_, _≢_}
 use mathlib.Core.Bool.{Bool, true, false, cond}
 use mathlib.Core.Option.{none}
@@ -20,20 +20,21 @@ use Rattle.entries.specs.declared.Entered.{Entered}
 use Rattle.entries.specs.Paper.Entry.{Entry, withEntry}
 use Rattle.entries.specs.Paper.Gate.{checks, gate}
 use Rattle.entries.specs.Paper.Enter.{counted, enter}
+use Rattle.entries.specs.Paper.Answers.{no-number, replyOf}
 use Rattle.entries.specs.Paper.Exact.{Outcome, by-table, impossible, accepted}
 use Rattle.entries.specs.Answered.{by-table-low, not-refused}
 use Rattle.entries.specs.Stepped.{enter-checked, enter-refused}
 
 -- whatever the entries are that the board shows
 outcome-exactly : (es : Entries) (b : Board) (e : Entry) (x : Entered) → Outcome es b e x → gate (checks (b .jobs) e) ≡ none
-    → (x .answer ≡ Answers.Refused Refused.Impossible) ↔ Contradiction (withEntry es e)
+    → (replyOf (x .answer) ≡ no-number 8) ↔ Contradiction (withEntry es e)
 outcome-exactly es b e _ (by-table r h) g = clash (cc)
 outcome-exactly es b e _ (impossible h k) g = (λ q. k, λ k′. refl)
 outcome-exactly es b e _ (accepted h c l t) g =
-    (λ q. absurd (not-refused (b .jobs) e Refused.Impossible q), λ k. absurd (k c (l .closed)))
+    (λ q. absurd (not-refused (b .jobs) e 8 q), λ k. absurd (k c (l .closed)))
 
 pub refused-exactly : (b : Board) (e : Entry) → passes b ≡ true → gate (checks (b .jobs) e) ≡ none
-    → (enter b e .answer ≡ Answers.Refused Refused.Impossible) ↔ Contradiction (withEntry (shown (view b)) e)
+    → (replyOf (enter b e .answer) ≡ no-number 8) ↔ Contradiction (withEntry (shown (view b)) e)
 refused-exactly b e p g = outcome-exactly (shown (view b)) b e (enter b e) (enter-checked b e p) g
 
 -- "A refusal carries its number only and alters nothing; number 8 adds one to the tally."
@@ -50,7 +51,7 @@ refused-board b e r q = go (passes b) refl
     ends : (x : Entered) → Outcome (shown (view b)) b e x → x .answer ≡ Answers.Refused r → x .board ≡ afterRefusal r b
     ends _ (by-table s g) a = other s (omega (arith, by-table-low (b .jobs) e s g)) a
     ends _ (impossible g k) a = let is : Refused.Impossible ≡ r = cc in subst (λ x. counted b ≡ afterRefusal x b) is refl
-    ends _ (accepted g c l t) a = absurd (not-refused (b .jobs) e r a)
+    ends _ (accepted g c l t) a = absurd (not-refused (b .jobs) e (numberOf r) (ap replyOf a))
 
     go : (t : Bool) → passes b ≡ t → enter b e .board ≡ afterRefusal r b
     go true p = ends (enter b e) (enter-checked b e p) q

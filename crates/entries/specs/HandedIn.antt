@@ -2,9 +2,9 @@
 -- accepted entry keeps the board after it; with an entry answered 8 they have no schedule.
 use mathlib.Core.Path.{_≡_, refl}
 use mathlib.Core.Bool.{true}
+use Prim.Native.Nat.{ℕ}
 use Rattle.board.specs.declared.Board.{Board}
-use Rattle.board.specs.declared.Refusal.{Refusal}
-use Rattle.board.specs.declared.Refusal.the-variants as Refused
+use Rattle.board.specs.Paper.Refusals.{numberOf}
 use Rattle.board.specs.Paper.View.{view}
 use Rattle.board.specs.Paper.Facts.{Fact, Known}
 use Rattle.board.specs.Paper.Limits.{Within}
@@ -13,7 +13,7 @@ use Rattle.board.specs.Paper.Schedules.{Placing, Schedule, Keeps}
 use Rattle.board.specs.Schedule.Boards.{least-keeps, contradiction-unscheduled}
 use Rattle.closure.specs.Check.{passes}
 use Rattle.closure.specs.Checked.{passes-within}
-use Rattle.entries.specs.declared.Answer.the-variants as Answers
+use Rattle.entries.specs.Paper.Answers.{no-number, replyOf}
 use Rattle.entries.specs.declared.Entered.{Entered}
 use Rattle.entries.specs.Paper.Entry.{Entry, withEntry}
 use Rattle.entries.specs.Paper.Enter.{enter}
@@ -31,19 +31,19 @@ admissible-shown b h = record { jobs = h .limits .jobs; rows = λ k. h .limits .
     about _ (drawn i k a) = let (li, lk, ne) = h .limits .arcs i k a in (li .0, lk .0, ne)
 
 module _ (b : Board) (e : Entry) (p : passes b ≡ true) where
-  pub handed-keeps : ((r : Refusal) → enter b e .answer ≡ Answers.Refused r → ⊥) → (s : Placing)
+  pub handed-keeps : ((r : ℕ) → replyOf (enter b e .answer) ≡ no-number r → ⊥) → (s : Placing)
       → Schedule (withEntry (shown (view b)) e) s → Keeps (view (enter b e .board)) s
   handed-keeps = ends (enter b e) (enter-checked b e p)
     where
-      ends : (x : Entered) → Outcome (shown (view b)) b e x → ((r : Refusal) → x .answer ≡ Answers.Refused r → ⊥)
+      ends : (x : Entered) → Outcome (shown (view b)) b e x → ((r : ℕ) → replyOf (x .answer) ≡ no-number r → ⊥)
           → (s : Placing) → Schedule (withEntry (shown (view b)) e) s → Keeps (view (x .board)) s
-      ends _ (by-table r g) taken = absurd (taken r refl)
-      ends _ (impossible g k) taken = absurd (taken Refused.Impossible refl)
+      ends _ (by-table r g) taken = absurd (taken (numberOf r) refl)
+      ends _ (impossible g k) taken = absurd (taken 8 refl)
       ends _ (accepted g c least t) taken =
           least-keeps (withEntry (shown (view b)) e) c
           (admissible-with (shown (view b)) e (admissible-shown b (passes-within b p)) (gate-allows (b .jobs) e g)) least
 
-  pub handed-unscheduled : enter b e .answer ≡ Answers.Refused Refused.Impossible → (s : Placing)
+  pub handed-unscheduled : replyOf (enter b e .answer) ≡ no-number 8 → (s : Placing)
       → Schedule (withEntry (shown (view b)) e) s → ⊥
   handed-unscheduled q =
       let (g, none) = answered-impossible b e _ _ (enter b e) (enter-checked b e p) q in

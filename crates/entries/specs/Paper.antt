@@ -3,5 +3,6 @@ pub mod Entry
 pub mod Gate
 pub mod Enter
 pub mod Looking
+pub mod Answers
 pub mod Sequence
 pub mod Exact

@@ -14,6 +14,7 @@ use Rattle.entries.specs.Paper.Enter.{acceptance, enter}
 use Rattle.entries.specs.Reached.{Reached, admissible-with, admissible-agree, reached-agree, reached-counted}
 use Rattle.entries.specs.Stepped.{Step, step}
 use Rattle.entries.specs.Paper.Exact.{by-table, impossible, accepted}
+use Rattle.entries.specs.Paper.Answers.{replyOf}
 use Rattle.entries.specs.Paper.Sequence.{Call, outcome, after, kept}
 use Rattle.entries.specs.Paper.Sequence
 
@@ -23,7 +24,7 @@ pub record Held (l : List Entry) (b : Board) : Type 0 where
   pub reached : Reached (entries l) b
 
 -- an accepted entry is kept
-accepted-kept : (n : ℕ) (e : Entry) → kept (acceptance n e) e ≡ e ∷ []
+accepted-kept : (n : ℕ) (e : Entry) → kept (replyOf (acceptance n e)) e ≡ e ∷ []
 accepted-kept n (addition l e d m) = refl
 accepted-kept n (other s) = refl
 
@@ -34,7 +35,7 @@ module _ (l : List Entry) (b : Board) (h : Held l b) where
       admissible-agree (withEntry (entries l) e) (entries (l ++ e ∷ [])) (agree-sym _ _ (agree-snoc l e))
       (admissible-with (entries l) e (h .admissible) (subst (λ n. Allowed n e) (h .reached .shows .count) (gate-allows (b .jobs) e g)))
 
-  one-more : (e : Entry) (x : Entered) → Step (entries l) b e x → Held (l ++ kept (x .answer) e) (x .board)
+  one-more : (e : Entry) (x : Entered) → Step (entries l) b e x → Held (l ++ kept (replyOf (x .answer)) e) (x .board)
   one-more e _ (by-table r g) = rw append-nil h
   one-more e _ (impossible g i) =
       rw append-nil (record { admissible = h .admissible; reached = reached-counted (entries l) b (h .reached) })
@@ -46,7 +47,7 @@ module _ (l : List Entry) (b : Board) (h : Held l b) where
       })
 
   -- one call
-  pub called : (e : Entry) → Held (l ++ kept (enter b e .answer) e) (enter b e .board)
+  pub called : (e : Entry) → Held (l ++ kept (replyOf (enter b e .answer)) e) (enter b e .board)
   called e = one-more e (enter b e) (step (entries l) b e (h .reached))
 
 pub played : (l : List Entry) (b : Board) (cs : List Call) → Held l b → Held (l ++ Sequence.accepted b cs) (after b cs)
@@ -54,5 +55,5 @@ unfolding Sequence.accepted after
 played l b [] h = rw append-nil h
 played l b (c ∷ cs) h =
     let x = outcome b c in
-    rw (← append-assoc l (kept (x .answer) (c .entry)) (Sequence.accepted (x .board) cs))
-    (played (l ++ kept (x .answer) (c .entry)) (x .board) cs (called l b h (c .entry)))
+    rw (← append-assoc l (kept (replyOf (x .answer)) (c .entry)) (Sequence.accepted (x .board) cs))
+    (played (l ++ kept (replyOf (x .answer)) (c .entry)) (x .board) cs (called l b h (c .entry)))

@@ -5,7 +5,6 @@ use mathlib.Core.Bool.{true}
 use mathlib.Core.List.{List, [], _∷_, _++_}
 use Prim.Native.Nat.{ℕ, _≤_}
 use Rattle.board.specs.declared.Board.{Board}
-use Rattle.board.specs.declared.Refusal.the-variants as Refused
 use Rattle.board.specs.Paper.View.{view}
 use Rattle.board.specs.Paper.Limits.{tallyLimit, Within, emptyBoard}
 use Rattle.board.specs.Paper.Rules.{R1}
@@ -13,8 +12,8 @@ use Rattle.board.specs.Paper.Closed.{Least, Contradiction}
 use Rattle.board.specs.Paper.Schedules.{Placing, Schedule, Keeps}
 use Rattle.board.specs.Paper.Equality.{Same}
 use Rattle.closure.specs.Check.{passes}
-use Rattle.entries.specs.declared.Answer.the-variants as Answers
 use Rattle.entries.specs.Paper.Entry.{Entry, entries, SameEntries}
+use Rattle.entries.specs.Paper.Answers.{no-number, replyOf}
 use Rattle.entries.specs.Paper.Exact.{Outcome}
 use Rattle.entries.specs.Paper.Sequence.{Call, outcome, after, accepted}
 
@@ -41,7 +40,7 @@ pub record Demand (t : ℕ) (cs : List Call) : Type 1 where
   pub joined : R1 (view (finalBoard t cs))
   -- of each entry answered 8 there is no schedule together with those accepted before it, and no closed board either
   pub impossible : (earlier later : List Call) (c : Call) → cs ≡ earlier ++ c ∷ later
-      → outcome (finalBoard t earlier) c .answer ≡ Answers.Refused Refused.Impossible
+      → replyOf (outcome (finalBoard t earlier) c .answer) ≡ no-number 8
       → Contradiction (entries (acceptedBy t earlier ++ c .entry ∷ []))
       × ((p : Placing) → Schedule (entries (acceptedBy t earlier ++ c .entry ∷ [])) p → ⊥)
   -- the order of the calls does not matter: what accepted the same jobs in the same order and the same set of other entries

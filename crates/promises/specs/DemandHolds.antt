@@ -3,7 +3,6 @@ use mathlib.Core.Path.{_≡_, refl}
 use mathlib.Core.List.{List, [], _∷_, _++_, List·Memᴰ·not-nil}
 use Prim.Native.Nat.{ℕ, _≤_}
 use native.Mathlib.Omega.{arith}
-use Rattle.board.specs.declared.Refusal.the-variants as Refused
 use Rattle.board.specs.Paper.View.{View, view}
 use Rattle.board.specs.Paper.Facts.{Fact, Holds}
 use Rattle.board.specs.Paper.Limits.{tallyLimit, emptyBoard}
@@ -16,7 +15,7 @@ use Rattle.board.specs.Paper.Schedules.{Placing, Schedule}
 use Rattle.board.specs.Schedule.Boards.{least-keeps, contradiction-unscheduled}
 use Rattle.closure.specs.Check.{passes}
 use Rattle.closure.specs.Checked.{obeys-passes}
-use Rattle.entries.specs.declared.Answer.the-variants as Answers
+use Rattle.entries.specs.Paper.Answers.{no-number, replyOf}
 use Rattle.entries.specs.Paper.Entry.{Entry, additions, Stated, entries}
 use Rattle.entries.specs.Paper.Enter.{enter}
 use Rattle.entries.specs.Answered.{answered-impossible}
@@ -63,7 +62,7 @@ module _ (t : ℕ) (fits : t ≤ tallyLimit) where
   held cs = played [] (emptyBoard t) cs held-empty
 
   -- of an entry answered 8, no board is closed over it and those accepted before it, and it has no schedule with them
-  contradicted : (cs : List Call) (e : Entry) → enter (finalBoard t cs) e .answer ≡ Answers.Refused Refused.Impossible
+  contradicted : (cs : List Call) (e : Entry) → replyOf (enter (finalBoard t cs) e .answer) ≡ no-number 8
       → Contradiction (entries (acceptedBy t cs ++ e ∷ [])) × ((p : Placing) → Schedule (entries (acceptedBy t cs ++ e ∷ [])) p → ⊥)
   contradicted cs e q =
       let h = held cs in

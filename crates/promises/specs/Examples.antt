@@ -13,19 +13,13 @@ use Rattle.minutes.specs.Sum.{sum}
 use Rattle.board.specs.declared.Board.{Board}
 use Rattle.board.specs.Paper.Limits.{emptyBoard}
 use Rattle.board.specs.Tests.Limits.{all, implies, between, isTime, isLength, isZero, fits, isZeroRow, full, shape, holdsJob, holdsNothing, joinable, agrees, withinLimits}
-use Rattle.board.specs.Paper.Refusals.{numberOf}
 use Rattle.board.specs.Paper.View.{rowOf}
 use Rattle.board.specs.Tests.Live.{live, valid}
 use Rattle.board.specs.Update.Updates.{exclude, tighten, update, _andThen_}
 use Rattle.closure.specs.Find.{guard, _orElse_, first, any, beyond, tooLate, joined, pushers, pushed, push, next, find}
 use Rattle.closure.specs.Closing.{close, closure}
 use Rattle.closure.specs.Check.{nothingLeft, passes}
-use Rattle.entries.specs.declared.Answer.{Answer}
-use Rattle.entries.specs.declared.Answer.the-variants as Answers
-use Rattle.entries.specs.declared.RowAnswer.{RowAnswer}
-use Rattle.entries.specs.declared.RowAnswer.the-variants as Rows
-use Rattle.entries.specs.declared.PairAnswer.{PairAnswer}
-use Rattle.entries.specs.declared.PairAnswer.the-variants as Pairs
+use Rattle.entries.specs.Paper.Answers.{Reply, ok-number, ok, no-number, replyOf, RowReply, shows-row, no-row, rowReplyOf, PairReply, shows-pair, no-pair, pairReplyOf}
 use Rattle.entries.specs.Paper.Entry.{arc, mark, cut, Entry, addition, other}
 use Rattle.entries.specs.Paper.Gate.{gate}
 use Rattle.entries.specs.Paper.Enter.{updateAll, raw, closureWith, enter}
@@ -58,10 +52,10 @@ pub data Line : Type 0 where
   rowIs : ℕ → ℕ → ℤ → ℤ → ℕ → ℕ → Line
   tallyIs : ℕ → Line
 
-abbrev pub refusal : Answer → Option ℕ
-refusal (Answers.Added k) = none
-refusal Answers.Accepted = none
-refusal (Answers.Refused r) = some (numberOf r)
+abbrev pub refusal : Reply → Option ℕ
+refusal (ok-number k) = none
+refusal ok = none
+refusal (no-number r) = some r
 
 abbrev pub gives : Option ℕ → Option ℕ → Bool
 gives none none = true
@@ -69,30 +63,30 @@ gives none (some m) = false
 gives (some n) none = false
 gives (some n) (some m) = eqb n m
 
-abbrev pub arcsOf : PairAnswer → Option ℕ
-arcsOf (Pairs.Pair arcs gap) = some arcs
-arcsOf (Pairs.Refused r) = none
+abbrev pub arcsOf : PairReply → Option ℕ
+arcsOf (shows-pair arcs gap) = some arcs
+arcsOf (no-pair r) = none
 
-abbrev pub gapOf : PairAnswer → ℤ → Bool
-gapOf (Pairs.Pair arcs gap) g = eqZ gap g
-gapOf (Pairs.Refused r) g = false
+abbrev pub gapOf : PairReply → ℤ → Bool
+gapOf (shows-pair arcs gap) g = eqZ gap g
+gapOf (no-pair r) g = false
 
 -- mark, E, D, the set before and the set after
-abbrev pub rowGives : RowAnswer → ℕ → ℤ → ℤ → ℕ → ℕ → Bool
-rowGives (Rows.Row m′ e′ d′ b′ a′) m e d b a =
+abbrev pub rowGives : RowReply → ℕ → ℤ → ℤ → ℕ → ℕ → Bool
+rowGives (shows-row m′ e′ d′ b′ a′) m e d b a =
     eqb m′ m && eqZ e′ e && eqZ d′ d && eqb b′ b && eqb a′ a
-rowGives (Rows.Refused r) m e d b a = false
+rowGives (no-row r) m e d b a = false
 
 -- the lines of an example are true from board b on
 abbrev pub true-from : Board → List Line → Bool
 true-from b [] = true
-true-from b (enters e ∷ ls) = let o = enter b e in gives (refusal (o .answer)) none && true-from (o .board) ls
-true-from b (refuses n e ∷ ls) = let o = enter b e in gives (refusal (o .answer)) (some n) && true-from (o .board) ls
+true-from b (enters e ∷ ls) = let o = enter b e in gives (refusal (replyOf (o .answer))) none && true-from (o .board) ls
+true-from b (refuses n e ∷ ls) = let o = enter b e in gives (refusal (replyOf (o .answer))) (some n) && true-from (o .board) ls
 true-from b (earliestIs j e ∷ ls) = eqZ (rowOf b j .earliest) (pos e) && true-from b ls
 true-from b (markIs j m ∷ ls) = eqb (rowOf b j .mark) m && true-from b ls
-true-from b (pairIs x y p ∷ ls) = gives (arcsOf (pair b (pos x) (pos y))) (some p) && true-from b ls
-true-from b (gapIs x y g ∷ ls) = gapOf (pair b (pos x) (pos y)) g && true-from b ls
-true-from b (rowIs j m e d p q ∷ ls) = rowGives (row b (pos j)) m e d p q && true-from b ls
+true-from b (pairIs x y p ∷ ls) = gives (arcsOf (pairReplyOf (pair b (pos x) (pos y)))) (some p) && true-from b ls
+true-from b (gapIs x y g ∷ ls) = gapOf (pairReplyOf (pair b (pos x) (pos y))) g && true-from b ls
+true-from b (rowIs j m e d p q ∷ ls) = rowGives (rowReplyOf (row b (pos j))) m e d p q && true-from b ls
 true-from b (tallyIs n ∷ ls) = eqb (b .tally) n && true-from b ls
 
 abbrev pub all-true : List (List Line) → Bool

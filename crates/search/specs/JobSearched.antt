@@ -8,7 +8,7 @@ use lib.IntN.{ℤ, pos, _+ℤ_}
 use lib.ListN.{getD}
 use lib.Signed.{leZ, ltZ, _≤ℤ_}
 use Rattle.minutes.specs.Linear.{whole}
-use Rattle.words.specs.Bit.{bit}
+use Rattle.words.specs.Bit.{bit, intersection}
 use Rattle.board.specs.declared.Board.{Board}
 use Rattle.board.specs.Paper.View.{View, Live, Valid, Arc, Side, early, late, bound, view, rowOf}
 use Rattle.board.specs.Paper.Limits.{Within}
@@ -58,41 +58,41 @@ module _ (s : Side) (j : ℕ) (window : Window) where
         λ m. omega (whole, m .1 (h .live), read-edge v (some z) h),
       )
 
--- the numbers and words are those of the board, and the words the valid jobs before job i and after it
-pub record JobRead (b : Board) (i : ℕ) (earliest latest lengths : List ℤ) (before after : ℕ) : Type 0 where
+-- the numbers are those of the board, and the words its valid jobs and the sets before job i and after it
+pub record JobRead (b : Board) (i : ℕ) (earliest latest lengths : List ℤ) (valids before after : ℕ) : Type 0 where
   pub within : Within b
   pub live : Live (view b) i
   pub is-earliest : earliest ≡ b .earliest
   pub is-latest : latest ≡ b .latest
   pub is-lengths : lengths ≡ b .lengths
-  pub is-before : (k : ℕ) → Decides (bit before k) (Valid (view b) k × Arc (view b) k i)
-  pub is-after : (k : ℕ) → Decides (bit after k) (Valid (view b) k × Arc (view b) i k)
+  pub is-before : (k : ℕ) → Decides (bit (intersection valids before) k) (Valid (view b) k × Arc (view b) k i)
+  pub is-after : (k : ℕ) → Decides (bit (intersection valids after) k) (Valid (view b) k × Arc (view b) i k)
 
-abbrev pub JobSearched : ℕ → List ℤ → List ℤ → List ℤ → ℕ → ℕ → Option Fact → Type 0
-JobSearched i earliest latest lengths before after o =
-    (b : Board) → JobRead b i earliest latest lengths before after → Searched (view b) (JobObeys (view b) i) o
+abbrev pub JobSearched : ℕ → List ℤ → List ℤ → List ℤ → ℕ → ℕ → ℕ → Option Fact → Type 0
+JobSearched i earliest latest lengths valids before after o =
+    (b : Board) → JobRead b i earliest latest lengths valids before after → Searched (view b) (JobObeys (view b) i) o
 
-module _ (b : Board) (i : ℕ) (earliest latest lengths : List ℤ) (before after : ℕ) (h : JobRead b i earliest latest lengths before after) where
+module _ (b : Board) (i : ℕ) (earliest latest lengths : List ℤ) (valids before after : ℕ) (h : JobRead b i earliest latest lengths valids before after) where
   window-is : record { earliest = getD earliest i (pos 0); latest = getD latest i (pos 0) } ≡ windowOf (rowOf b i)
   window-is = rw (h .is-earliest, h .is-latest)
 
   -- the window and the bounds that are found from the arrays are those of the board
-  pub read-early : (r : EnergyBound) → Greatest (Sum early earliest lengths before) (boundOf early r)
+  pub read-early : (r : EnergyBound) → Greatest (Sum early earliest lengths (intersection valids before)) (boundOf early r)
       → SideRead (view b) early i (record { earliest = getD earliest i (pos 0); latest = getD latest i (pos 0) }) (boundOf early r)
   read-early r g =
       record {
         live = h .live;
         is-window = window-is;
-        is-greatest = greatest-beyond b (h .within) early i before (h .is-before) (boundOf early r) (rw (h .is-earliest, h .is-lengths) at g);
+        is-greatest = greatest-beyond b (h .within) early i (intersection valids before) (h .is-before) (boundOf early r) (rw (h .is-earliest, h .is-lengths) at g);
       }
 
-  pub read-late : (r : EnergyBound) → Greatest (Sum late latest lengths after) (boundOf late r)
+  pub read-late : (r : EnergyBound) → Greatest (Sum late latest lengths (intersection valids after)) (boundOf late r)
       → SideRead (view b) late i (record { earliest = getD earliest i (pos 0); latest = getD latest i (pos 0) }) (boundOf late r)
   read-late r g =
       record {
         live = h .live;
         is-window = window-is;
-        is-greatest = greatest-beyond b (h .within) late i after (h .is-after) (boundOf late r) (rw (h .is-latest, h .is-lengths) at g);
+        is-greatest = greatest-beyond b (h .within) late i (intersection valids after) (h .is-after) (boundOf late r) (rw (h .is-latest, h .is-lengths) at g);
       }
 
   pub room-is : leZ (getD earliest i (pos 0) +ℤ getD lengths i (pos 0)) (getD latest i (pos 0)) ≡ roomy (rowOf b i)

@@ -2,10 +2,11 @@
 -- have been searched, and nothing is left to infer there.
 use mathlib.Core.Path.{_≡_, refl, ap, _∙_}
 use mathlib.Core.Logic.{_≢_}
-use mathlib.Core.Bool.{true}
+use mathlib.Core.Bool.{Bool, true}
 use Prim.Native.Nat.{ℕ, _<_, _^_}
 use lib.IntN.{ℤ, _+ℤ_}
 use lib.ListN.{getD}
+use lib.Signed.{ltZ}
 use Rattle.words.specs.Bit.{bit, intersection, difference, without}
 use Rattle.words.specs.BitLaws.{bit-intersection, bit-difference, bit-without, without-lt, difference-lt}
 use Rattle.words.specs.Walk.{Left, none-left}
@@ -13,7 +14,7 @@ use Rattle.minutes.specs.Bools.{is-true, refuted}
 use Rattle.board.specs.declared.Board.{Board}
 use Rattle.board.specs.Paper.View.{View, Live, Valid, Arc, view}
 use Rattle.board.specs.Paper.Rules.{E, D, L}
-use Rattle.board.specs.Paper.Limits.{Within}
+use Rattle.board.specs.Paper.Limits.{jobLimit, Within}
 use Rattle.board.specs.Tests.Live.{live, valid}
 use Rattle.board.specs.Tests.Ranges.{after-fits, before-fits}
 use Rattle.board.specs.Tests.Decides.{Decides, retested, _and_, negated, holds, eq, live-is, valid-is}
@@ -22,13 +23,17 @@ use Rattle.search.specs.JobSearched.{JobRead}
 use Rattle.search.specs.PairSearched.{PairRead}
 use Rattle.search.specs.Searched.{JobObeys, PairObeys, RowObeys, joined-obeys, rows-obey}
 
+-- the jobs to pair with i: a pair with an arc to i alone needs no search
+abbrev pub paired : ℕ → ℕ → ℕ → ℕ → ℕ
+paired lives i before after = difference jobLimit (without jobLimit lives i) (difference jobLimit before after)
+
 -- the rows that are left
 abbrev pub RowsLeft : View → ℕ → Type 0
-RowsLeft v = Left 64 (Live v) (RowObeys v)
+RowsLeft v = Left jobLimit (Live v) (RowObeys v)
 
 -- the pairs of row i that are left
 abbrev pub PairsLeft : View → ℕ → ℕ → Type 0
-PairsLeft v i = Left 64 (λ k. Live v k × (i ≢ k)) (PairObeys v i)
+PairsLeft v i = Left jobLimit (λ k. Live v k × (i ≢ k)) (PairObeys v i)
 
 -- row i is being searched: nothing is left to infer of the job alone, and once nothing is left in its pairs the walk goes on
 -- with `rows`
@@ -41,7 +46,7 @@ pub record InRow (b : Board) (valids rows i after before : ℕ) (end : ℤ) : Ty
   pub is-before : before ≡ getD (b .before) i 0
   pub is-end : end ≡ E (view b) i +ℤ L (view b) i
 
-module _ (b : Board) (h : Within b) (lives : ℕ) (width : lives < 2 ^ 64) (is-live : (x : ℕ) → bit lives x ≡ live (view b) x) where
+module _ (b : Board) (h : Within b) (lives : ℕ) (width : lives < 2 ^ jobLimit) (is-live : (x : ℕ) → bit lives x ≡ live (view b) x) where
   live-bit : (x : ℕ) → Decides (bit lives x) (Live (view b) x)
   live-bit x = retested (is-live x) (live-is (view b) x)
 
@@ -54,35 +59,31 @@ module _ (b : Board) (h : Within b) (lives : ℕ) (width : lives < 2 ^ 64) (is-l
         done = λ x l e. absurd (refuted e (live-bit x .show l));
       }
 
-  module _ (i : ℕ) (place : i < 64) where
+  module _ (i : ℕ) (place : i < jobLimit) where
     abbrev after : ℕ
     after = getD (b .after) i 0
 
     abbrev before : ℕ
     before = getD (b .before) i 0
 
-    -- the pairs of i that are joined one way alone, to i, need no search
-    abbrev pub searched : ℕ
-    searched = difference 64 (without 64 lives i) (difference 64 before after)
-
     before-bit : (k : ℕ) → Decides (bit before k) (Arc (view b) k i)
     before-bit k = retested (h .twice k i) (holds (view b .arc k i))
 
-    searched-bit : (k : ℕ)
-        → Decides (bit searched k) ((Live (view b) k × (i ≢ k)) × ((Arc (view b) k i × (Arc (view b) i k → ⊥)) → ⊥))
-    searched-bit k =
+    paired-bit : (k : ℕ)
+        → Decides (bit (paired lives i before after) k) ((Live (view b) k × (i ≢ k)) × ((Arc (view b) k i × (Arc (view b) i k → ⊥)) → ⊥))
+    paired-bit k =
         retested
-        (bit-difference 64 (without 64 lives i) (difference 64 before after) k (without-lt 64 lives i width) (difference-lt 64 before after (before-fits b h i)))
-        (retested (bit-without 64 lives i k width place) (live-bit k and negated (eq i k))
-        and negated (retested (bit-difference 64 before after k (before-fits b h i) (after-fits b h i)) (before-bit k and negated (holds (view b .arc i k)))))
+        (bit-difference jobLimit (without jobLimit lives i) (difference jobLimit before after) k (without-lt jobLimit lives i width) (difference-lt jobLimit before after (before-fits b h i)))
+        (retested (bit-without jobLimit lives i k width place) (live-bit k and negated (eq i k))
+        and negated (retested (bit-difference jobLimit before after k (before-fits b h i) (after-fits b h i)) (before-bit k and negated (holds (view b .arc i k)))))
 
     -- at first all the others are left
-    pub pairs-left : PairsLeft (view b) i searched
+    pub pairs-left : PairsLeft (view b) i (paired lives i before after)
     pairs-left =
         record {
-          width = difference-lt 64 _ _ (without-lt 64 lives i width);
-          member = λ k e. searched-bit k .yes e .0;
-          done = λ k l e. unsearched k l (λ s. refuted e (searched-bit k .show (l, s)));
+          width = difference-lt jobLimit _ _ (without-lt jobLimit lives i width);
+          member = λ k e. paired-bit k .yes e .0;
+          done = λ k l e. unsearched k l (λ s. refuted e (paired-bit k .show (l, s)));
         }
       where
         unsearched : (k : ℕ) → Live (view b) k × (i ≢ k) → (((Arc (view b) k i × (Arc (view b) i k → ⊥)) → ⊥) → ⊥) → PairObeys (view b) i k
@@ -96,9 +97,7 @@ module _ (b : Board) (h : Within b) (valids : ℕ) (is-valid : (x : ℕ) → bit
   valid-bit : (x : ℕ) → Decides (bit valids x) (Valid (view b) x)
   valid-bit x = retested (is-valid x) (valid-is (view b) x)
 
-  pub job-read : JobRead b i (b .earliest) (b .latest) (b .lengths)
-      (intersection valids (getD (b .before) i 0))
-      (intersection valids (getD (b .after) i 0))
+  pub job-read : JobRead b i (b .earliest) (b .latest) (b .lengths) valids (getD (b .before) i 0) (getD (b .after) i 0)
   job-read =
       record {
         within = h;
@@ -111,9 +110,9 @@ module _ (b : Board) (h : Within b) (valids : ℕ) (is-valid : (x : ℕ) → bit
       }
 
 pub pair-read : (b : Board) → Within b → (valids rows i after before : ℕ) (end : ℤ) → InRow b valids rows i after before end
-    → (k : ℕ) → Live (view b) k × (i ≢ k) → (length latest : ℤ) → length ≡ L (view b) k → latest ≡ D (view b) k
-    → PairRead (view b) i k valids after before (getD (b .after) k 0) end length latest
-pair-read b h valids rows i after before end r k (l, ne) length latest is-length is-latest =
+    → (k : ℕ) → Live (view b) k × (i ≢ k) → (late : Bool) → late ≡ ltZ (D (view b) k) (end +ℤ L (view b) k)
+    → PairRead (view b) i k valids after before (getD (b .after) k 0) late
+pair-read b h valids rows i after before end r k (l, ne) late is-late =
     record {
       first = r .live;
       second = l;
@@ -123,17 +122,15 @@ pair-read b h valids rows i after before end r k (l, ne) length latest is-length
       is-after = λ x. ap (λ w. bit w x) (r .is-after);
       is-before = λ x. ap (λ w. bit w x) (r .is-before) ∙ h .twice x i;
       is-onward = λ x. refl;
-      is-end = r .is-end;
-      is-length = is-length;
-      is-latest = is-latest;
+      is-late = is-late ∙ ap (λ x. ltZ (D (view b) k) (x +ℤ L (view b) k)) (r .is-end);
     }
 
 -- with no row left the rules are obeyed
 pub rows-done : (b : Board) → Within b → RowsLeft (view b) 0 → Obeys (view b)
-rows-done b h left = rows-obey (view b) (h .limits .arcs) (none-left 64 _ _ left)
+rows-done b h left = rows-obey (view b) (h .limits .arcs) (none-left jobLimit _ _ left)
 
 -- with no pair left the row is obeyed
 pub row-done : (b : Board) (valids rows i after before : ℕ) (end : ℤ) → InRow b valids rows i after before end
     → PairsLeft (view b) i 0 → RowsLeft (view b) rows
 row-done b valids rows i after before end r left =
-    r .onward (record { job = r .job; pairs = λ k l ne. none-left 64 _ _ left k (l, ne) })
+    r .onward (record { job = r .job; pairs = λ k l ne. none-left jobLimit _ _ left k (l, ne) })

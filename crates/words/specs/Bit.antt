@@ -6,6 +6,10 @@ use mathlib.Core.Bool.{Bool, true, false, cond}
 use lib.Bits.{bitAnd, bitOr}
 use lib.Dec.{eqb}
 
+-- the width of the code's words
+abbrev pub width : ℕ
+width = 64
+
 -- is job k in the set w?
 unfoldable pub bit : ℕ → ℕ → Bool
 bit w k = eqb (w / 2 ^ k % 2) 1

@@ -6,7 +6,7 @@ ghost use Rattle.words.specs.Bit as sets;
 
 // Is job k in the set w?
 pub fn has(w: u64, k: usize) -> bool
-    requires { ⌜ k < 64 ⌝ }
+    requires { ⌜ k < sets.width ⌝ }
     ensures { λ r. ⌜ r ≡ sets.bit w k ⌝ }
 {
     (w >> k) & 1 == 1
@@ -14,7 +14,7 @@ pub fn has(w: u64, k: usize) -> bool
 
 // The set w with job k put in.
 pub fn with(w: u64, k: usize) -> u64
-    requires { ⌜ k < 64 ⌝ }
+    requires { ⌜ k < sets.width ⌝ }
     ensures { λ r. ⌜ r ≡ sets.with w k ⌝ }
 {
     w | (1 << k)
@@ -22,8 +22,8 @@ pub fn with(w: u64, k: usize) -> u64
 
 // The set w with job k taken out.
 pub fn without(w: u64, k: usize) -> u64
-    requires { ⌜ k < 64 ⌝ }
-    ensures { λ r. ⌜ r ≡ sets.without 64 w k ⌝ }
+    requires { ⌜ k < sets.width ⌝ }
+    ensures { λ r. ⌜ r ≡ sets.without sets.width w k ⌝ }
 {
     w & !(1 << k)
 }
@@ -44,7 +44,7 @@ pub fn intersection(a: u64, b: u64) -> u64
 
 // The jobs of a that are not in b.
 pub fn difference(a: u64, b: u64) -> u64
-    ensures { λ r. ⌜ r ≡ sets.difference 64 a b ⌝ }
+    ensures { λ r. ⌜ r ≡ sets.difference sets.width a b ⌝ }
 {
     a & !b
 }
@@ -52,7 +52,7 @@ pub fn difference(a: u64, b: u64) -> u64
 // The least job of a set that has one.
 pub fn lowest(w: u64) -> usize
     requires { ⌜ w ≢ 0 ⌝ }
-    ensures { λ r. ⌜ sets.Lowest 64 w r ⌝ }
+    ensures { λ r. ⌜ sets.Lowest sets.width w r ⌝ }
 {
     u64::trailing_zeros(w) as usize
 }

@@ -1,6 +1,5 @@
 -- `search::at_pair` meets its contract: R2, R3 and R1, each by its own law. Assumes nothing.
 use mathlib.Core.Path.{sym, _∙_}
-use mir.ValLaws.{toZ-ofZ}
 use Rattle.search.specs.PairSearched.{says-exclude, says-order, says-join, says-nothing}
 use borrow.Author.Needs.{needs}
 use Rattle.search.proofs.at_pair.Statement.{statement}
@@ -12,8 +11,7 @@ excludes-requires c κs = search needs
 returns : tie.Need-returns
 returns c =
     let a = c .before .before .args in
-    says-exclude (a .i) (a .k) (a .valid) (a .after) (a .before) (a .onward) (a .end) (a .length) (a .latest)
-    (sym (c .before .excludes .ensures) ∙ c .if1 .taken)
+    says-exclude (a .i) (a .k) (a .valid) (a .after) (a .before) (a .onward) (a .late) (sym (c .before .excludes .ensures) ∙ c .if1 .taken)
 
 orders-requires : tie.Need-orders-requires
 orders-requires c κs = search needs
@@ -21,9 +19,7 @@ orders-requires c κs = search needs
 returns-2 : tie.Need-returns-2
 returns-2 c =
     let a = c .before .before .before .before .args in
-    let f = c .before .before .before .before .fits in
-    says-order (a .i) (a .k) (a .valid) (a .after) (a .before) (a .onward) (a .end) (a .length) (a .latest)
-    (sym (simp (toZ-ofZ, f .end, f .length, f .latest) at (c .before .orders .ensures)) ∙ c .if2 .taken)
+    says-order (a .i) (a .k) (a .valid) (a .after) (a .before) (a .onward) (a .late) (sym (c .before .orders .ensures) ∙ c .if2 .taken)
 
 unjoined-requires : tie.Need-unjoined-requires
 unjoined-requires c κs = search needs
@@ -34,21 +30,17 @@ lowest-requires c κs = search needs
 returns-3 : tie.Need-returns-3
 returns-3 c =
     let a = c .before .before .before .before .before .before .before .args in
-    says-join (a .i) (a .k) (a .valid) (a .after) (a .before) (a .onward) (a .end) (a .length) (a .latest)
-    (c .before .before .unjoined .result)
-    (c .before .before .unjoined .ensures)
-    (c .lowest .result)
+    let missing = c .before .before .unjoined in
+    says-join (a .i) (a .k) (a .valid) (a .after) (a .before) (a .onward) (a .late) (missing .result) (missing .ensures) (c .lowest .result)
     (c .lowest .ensures .member)
 
 returns-4 : tie.Need-returns-4
 returns-4 c =
     let a = c .before .before .before .before .before .before .args in
-    let f = c .before .before .before .before .before .before .fits in
-    says-nothing (a .i) (a .k) (a .valid) (a .after) (a .before) (a .onward) (a .end) (a .length) (a .latest)
-    (c .before .unjoined .result)
-    (c .before .unjoined .ensures)
+    let missing = c .before .unjoined in
+    says-nothing (a .i) (a .k) (a .valid) (a .after) (a .before) (a .onward) (a .late) (missing .result) (missing .ensures)
     (sym (c .before .before .before .before .before .excludes .ensures) ∙ c .before .before .before .before .if1 .left)
-    (sym (simp (toZ-ofZ, f .end, f .length, f .latest) at (c .before .before .before .orders .ensures)) ∙ c .before .before .if2 .left)
+    (sym (c .before .before .before .orders .ensures) ∙ c .before .before .if2 .left)
     (c .if3 .left)
 
 pub at-pair-spec : {M : Type 1} → statement M

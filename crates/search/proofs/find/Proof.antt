@@ -8,6 +8,7 @@ use mir.Val.{toZ, ofZ}
 use mir.ValLaws.{toZ-ofZ}
 use Rattle.words.specs.Bit.{bit}
 use Rattle.words.specs.Walk.{walk-falls, visited}
+use Rattle.board.specs.Paper.Limits.{jobLimit}
 use Rattle.board.specs.Paper.View.{view, early, late}
 use Rattle.board.specs.Tests.Live.{valid}
 use Rattle.board.specs.Tests.Ranges.{ranges, time-moderate, length-moderate, end-moderate}
@@ -64,17 +65,11 @@ mul-before c = search needs
 element-copy-out-before : tie.Need-element-copy-out-before Inv-loop μ-loop Inv-pairs μ-pairs
 element-copy-out-before c = search needs
 
-intersection-requires : tie.Need-intersection-requires Inv-loop μ-loop Inv-pairs μ-pairs
-intersection-requires c κs = search needs
-
-intersection-requires-2 : tie.Need-intersection-requires-2 Inv-loop μ-loop Inv-pairs μ-pairs
-intersection-requires-2 c κs = search needs
-
 at-job-requires : tie.Need-at-job-requires Inv-loop μ-loop Inv-pairs μ-pairs
 at-job-requires c κs =
-    let start = c .before .before .before .before .before .before .before .before .before .before .before .before .before .before .before .before .before .before in
+    let start = c .before .before .before .before .before .before .before .before .before .before .before .before .before .before .before .before in
     let b = start .args .t1 in
-    (c .before .before .before .before .before .before .before .before .before .lowest .ensures .width, times-within b (start .pre) early, times-within b (start .pre) late, lengths-within b (start .pre))
+    (c .before .before .before .before .before .before .before .lowest .ensures .width, times-within b (start .pre) early, times-within b (start .pre) late, lengths-within b (start .pre))
 
 enum-known-single : tie.Need-enum-known-single Inv-loop μ-loop Inv-pairs μ-pairs
 enum-known-single c = search needs
@@ -96,43 +91,36 @@ element-copy-out-sum-2 c = search needs
 
 sum-requires : tie.Need-sum-requires Inv-loop μ-loop Inv-pairs μ-pairs
 sum-requires c κs =
-    let start = c .before .before .before .before .before .before .before .before .before .before .before .before .before .before .before .before .before .before .before .before .before .before .before in
+    let start = c .before .before .before .before .before .before .before .before .before .before .before .before .before .before .before .before .before .before .before .before .before in
     let b = start .args .t1 in
-    let i = c .before .before .before .before .before .before .before .before .before .before .before .before .before .before .lowest .result in
+    let i = c .before .before .before .before .before .before .before .before .before .before .before .before .lowest .result in
     let r = ranges b (start .pre) i in
     simp (toZ-ofZ, time-fits (r .earliest), length-fits (lengths-within b (start .pre)) i) (time-moderate (r .earliest), length-moderate r)
 
-without-requires-2 : tie.Need-without-requires-2 Inv-loop μ-loop Inv-pairs μ-pairs
-without-requires-2 c κs = search needs
-
-difference-requires : tie.Need-difference-requires Inv-loop μ-loop Inv-pairs μ-pairs
-difference-requires c κs = search needs
-
-difference-requires-2 : tie.Need-difference-requires-2 Inv-loop μ-loop Inv-pairs μ-pairs
-difference-requires-2 c κs = search needs
+partners-requires : tie.Need-partners-requires Inv-loop μ-loop Inv-pairs μ-pairs
+partners-requires c κs = search needs
 
 loop-holds : tie.Need-loop-holds Inv-loop μ-loop Inv-pairs μ-pairs
 loop-holds c =
-    let start = c .before .before .before .before .before .before .before .before .before .before .before .before .before .before .before .before .before .before .before .before .before .before .before .before .before .before .before in
+    let start = c .before .before .before .before .before .before .before .before .before .before .before .before .before .before .before .before .before .before .before .before .before .before .before in
     let b = start .args .t1 in
     let h = start .pre in
-    let old = c .before .before .before .before .before .before .before .before .before .before .before .before .before .before .before .before .before .before .before .before .pairs in
-    let low = c .before .before .before .before .before .before .before .before .before .before .before .before .before .before .before .before .before .before .lowest in
+    let old = c .before .before .before .before .before .before .before .before .before .before .before .before .before .before .before .before .pairs in
+    let low = c .before .before .before .before .before .before .before .before .before .before .before .before .before .before .lowest in
     let i = low .result in
     let here = old .inv .1 .member i (low .ensures .member) in
-    let valids = c .before .before .before .before .before .before .before .before .before .before .before .before .before .before .before .before .before .before .before .before .before .before .before .before .marked in
+    let valids = c .before .before .before .before .before .before .before .before .before .before .before .before .before .before .before .before .before .before .before .before .marked in
     let is-valid : (x : ℕ) → bit (valids .result) x ≡ valid (view b) x = λ x. ap (λ w. bit w x) (valids .ensures) ∙ bit-valid b x in
-    let lives = c .before .before .before .before .before .before .before .before .before .before .before .before .before .before .before .before .before .before .before .before .before .live in
-    let job = c .before .before .before .before .before .before .before .before .at-job in
-    let none = ap inferredOf (c .before .before .before .before .before .before .enum-told .given .1) in
-    let sets = rw (c .before .before .before .before .before .before .before .before .before .before .intersection .ensures, c .before .before .before .before .before .before .before .before .before .intersection2 .ensures) at (job .ensures) in
+    let lives = c .before .before .before .before .before .before .before .before .before .before .before .before .before .before .before .before .before .live in
+    let none = ap inferredOf (c .before .before .before .before .enum-told .given .1) in
+    let rest = c .before .before .before .before .before .before .before .before .before .before .before .before .before .without in
     let r = ranges b h i in
-    let end = c .before .before .before .sum in
-    let row : InRow b (valids .result) (c .before .before .before .before .before .before .before .before .before .before .before .before .before .before .before .before .before .without .result) i (getD (b .after) i 0) (getD (b .before) i 0) (toZ w32 (ofZ w32 (c .before .before .before .sum .result))) =
+    let end = c .before .sum in
+    let row : InRow b (valids .result) (rest .result) i (getD (b .after) i 0) (getD (b .before) i 0) (toZ w32 (ofZ w32 (end .result))) =
     record {
       live = here;
-      job = rw none at (sets b (job-read b h (valids .result) is-valid i here));
-      onward = λ row. rw (c .before .before .before .before .before .before .before .before .before .before .before .before .before .before .before .before .before .without .ensures) (visited 64 _ _ (old .rows) i (old .inv .1) (low .ensures) row);
+      job = rw none at (c .before .before .before .before .before .before .at-job .ensures b (job-read b h (valids .result) is-valid i here));
+      onward = λ row. rw (rest .ensures) (visited jobLimit _ _ (old .rows) i (old .inv .1) (low .ensures) row);
       is-valid = is-valid;
       is-after = refl;
       is-before = refl;
@@ -140,24 +128,47 @@ loop-holds c =
     }
     in
     let left = pairs-left b h (lives .result) (lives .ok) (λ x. ap (λ w. bit w x) (lives .ensures) ∙ bit-live b x) i (low .ensures .width) in
-    (old .inv .0, row, rw (c .difference2 .ensures, c .before .difference .ensures, c .before .before .without2 .ensures) left)
+    (old .inv .0, row, rw (c .partners .ensures) left)
 
 pairs-less : tie.Need-pairs-less Inv-loop μ-loop Inv-pairs μ-pairs
 pairs-less c =
-    walk-falls (c .before .before .before .before .before .before .before .before .before .before .before .before .before .before .before .before .before .before .before .before .before .before .pairs .inv .1 .width) (c .before .before .before .before .before .before .before .before .before .before .before .before .before .before .before .before .before .before .before .before .lowest .ensures) (c .before .before .before .before .before .before .before .before .before .before .before .before .before .before .before .before .before .before .before .without .ensures)
+    walk-falls (c .before .before .before .before .before .before .before .before .before .before .before .before .before .before .before .before .before .before .pairs .inv .1 .width) (c .before .before .before .before .before .before .before .before .before .before .before .before .before .before .before .before .lowest .ensures) (c .before .before .before .before .before .before .before .before .before .before .before .before .before .before .before .without .ensures)
 
 pairs-again : tie.Need-pairs-again Inv-loop μ-loop Inv-pairs μ-pairs
 pairs-again c =
     let inv = c .before .loop .inv in
-    let b = c .before .before .before .before .before .before .before .before .before .before .before .before .before .before .before .before .before .before .before .before .before .before .before .before .before .before .before .before .before .args .t1 in
-    let i = c .before .before .before .before .before .before .before .before .before .before .before .before .before .before .before .before .before .before .before .before .lowest .result in
+    let b = c .before .before .before .before .before .before .before .before .before .before .before .before .before .before .before .before .before .before .before .before .before .before .before .before .before .args .t1 in
+    let i = c .before .before .before .before .before .before .before .before .before .before .before .before .before .before .before .before .lowest .result in
     (inv .0, row-done _ _ _ _ _ _ _ (inv .1) (subst (PairsLeft (view b) i) (c .loop-test .left) (inv .2)))
 
 lowest-requires-2 : tie.Need-lowest-requires-2 Inv-loop μ-loop Inv-pairs μ-pairs
 lowest-requires-2 c κs = search needs
 
-without-requires-3 : tie.Need-without-requires-3 Inv-loop μ-loop Inv-pairs μ-pairs
-without-requires-3 c κs = search needs
+without-requires-2 : tie.Need-without-requires-2 Inv-loop μ-loop Inv-pairs μ-pairs
+without-requires-2 c κs = search needs
+
+mul-is-late : tie.Need-mul-is-late Inv-loop μ-loop Inv-pairs μ-pairs
+mul-is-late c = search needs
+
+element-copy-out-is-late : tie.Need-element-copy-out-is-late Inv-loop μ-loop Inv-pairs μ-pairs
+element-copy-out-is-late c = search needs
+
+mul-is-late-2 : tie.Need-mul-is-late-2 Inv-loop μ-loop Inv-pairs μ-pairs
+mul-is-late-2 c = search needs
+
+element-copy-out-is-late-2 : tie.Need-element-copy-out-is-late-2 Inv-loop μ-loop Inv-pairs μ-pairs
+element-copy-out-is-late-2 c = search needs
+
+is-late-requires : tie.Need-is-late-requires Inv-loop μ-loop Inv-pairs μ-pairs
+is-late-requires c κs =
+    let start = c .before .before .before .before .before .before .before .before .before .before .before .before .before .before .before .before .before .before .before .before .before .before .before .before .before .before .before .before .before in
+    let b = start .args .t1 in
+    let h = start .pre in
+    let i = c .before .before .before .before .before .before .before .before .before .before .before .before .before .before .before .before .before .before .before .before .lowest .result in
+    let k = c .before .before .before .lowest2 .result in (
+      rw (c .before .before .before .before .before .loop .inv .1 .is-end) (end-moderate (ranges b h i)),
+      simp (toZ-ofZ, length-fits (lengths-within b h) k) (length-moderate (ranges b h k)),
+    )
 
 mul-at-pair : tie.Need-mul-at-pair Inv-loop μ-loop Inv-pairs μ-pairs
 mul-at-pair c = search needs
@@ -165,32 +176,9 @@ mul-at-pair c = search needs
 element-copy-out-at-pair : tie.Need-element-copy-out-at-pair Inv-loop μ-loop Inv-pairs μ-pairs
 element-copy-out-at-pair c = search needs
 
-mul-at-pair-2 : tie.Need-mul-at-pair-2 Inv-loop μ-loop Inv-pairs μ-pairs
-mul-at-pair-2 c = search needs
-
-element-copy-out-at-pair-2 : tie.Need-element-copy-out-at-pair-2 Inv-loop μ-loop Inv-pairs μ-pairs
-element-copy-out-at-pair-2 c = search needs
-
-mul-at-pair-3 : tie.Need-mul-at-pair-3 Inv-loop μ-loop Inv-pairs μ-pairs
-mul-at-pair-3 c = search needs
-
-element-copy-out-at-pair-3 : tie.Need-element-copy-out-at-pair-3 Inv-loop μ-loop Inv-pairs μ-pairs
-element-copy-out-at-pair-3 c = search needs
-
 at-pair-requires : tie.Need-at-pair-requires Inv-loop μ-loop Inv-pairs μ-pairs
 at-pair-requires c κs =
-    let start = c .before .before .before .before .before .before .before .before .before .before .before .before .before .before .before .before .before .before .before .before .before .before .before .before .before .before .before .before .before .before .before .before .before .before in
-    let b = start .args .t1 in
-    let h = start .pre in
-    let i = c .before .before .before .before .before .before .before .before .before .before .before .before .before .before .before .before .before .before .before .before .before .before .before .before .before .lowest in
-    let k = c .before .before .before .before .lowest2 in
-    let end = c .before .before .before .before .before .before .loop .inv .1 .is-end in
-    let r = ranges b h (i .result) in (
-      i .ensures .width,
-      k .ensures .width,
-      rw end (end-moderate r),
-      simp (toZ-ofZ, length-fits (lengths-within b h) (k .result)) (length-moderate (ranges b h (k .result))),
-    )
+    (c .before .before .before .before .before .before .before .before .before .before .before .before .before .before .before .before .before .before .before .before .before .before .lowest .ensures .width, c .before .before .before .before .before .lowest2 .ensures .width)
 
 enum-known-pair : tie.Need-enum-known-pair Inv-loop μ-loop Inv-pairs μ-pairs
 enum-known-pair c = search needs
@@ -200,25 +188,24 @@ enum-told-2 c = search needs
 
 loop-less : tie.Need-loop-less Inv-loop μ-loop Inv-pairs μ-pairs
 loop-less c =
-    walk-falls (c .before .before .before .before .before .before .before .before .before .loop .inv .2 .width) (c .before .before .before .before .before .before .before .lowest2 .ensures) (c .before .before .before .before .before .before .without3 .ensures)
+    walk-falls (c .before .before .before .before .before .before .before .before .before .before .loop .inv .2 .width) (c .before .before .before .before .before .before .before .before .lowest2 .ensures) (c .before .before .before .before .before .before .before .without2 .ensures)
 
 loop-again : tie.Need-loop-again Inv-loop μ-loop Inv-pairs μ-pairs
 loop-again c =
-    let start = c .before .before .before .before .before .before .before .before .before .before .before .before .before .before .before .before .before .before .before .before .before .before .before .before .before .before .before .before .before .before .before .before .before .before .before .before .before in
+    let start = c .before .before .before .before .before .before .before .before .before .before .before .before .before .before .before .before .before .before .before .before .before .before .before .before .before .before .before .before .before .before .before .before .before .before in
     let b = start .args .t1 in
-    let loop = c .before .before .before .before .before .before .before .before .before .loop in
-    let low = c .before .before .before .before .before .before .before .lowest2 in
-    let none = ap inferredOf (c .enum-told2 .given .1) in
+    let h = start .pre in
+    let loop = c .before .before .before .before .before .before .before .before .before .before .loop in
+    let low = c .before .before .before .before .before .before .before .before .lowest2 in
     let k = low .result in
-    let read =
-    pair-read b (start .pre) _ _ _ _ _ _ (loop .inv .1) k (loop .inv .2 .member k (low .ensures .member)) _ _
-    (toZ-ofZ w32 _ (length-fits (lengths-within b (start .pre)) k))
-    (toZ-ofZ w32 _ (time-fits (ranges b (start .pre) k .latest)))
-    in
+    let late = c .before .before .before .before .is-late in
+    let is-late = simp (toZ-ofZ, length-fits (lengths-within b h) k, time-fits (ranges b h k .latest)) at (late .ensures) in
+    let read = pair-read b h _ _ _ _ _ _ (loop .inv .1) k (loop .inv .2 .member k (low .ensures .member)) (late .result) is-late in
+    let none = ap inferredOf (c .enum-told2 .given .1) in
     let obeyed = rw none at (c .before .before .at-pair .ensures (view b) read) in (
       loop .inv .0,
       loop .inv .1,
-      rw (c .before .before .before .before .before .before .without3 .ensures) (visited 64 _ _ (loop .others) (low .result) (loop .inv .2) (low .ensures) obeyed),
+      rw (c .before .before .before .before .before .before .before .without2 .ensures) (visited jobLimit _ _ (loop .others) k (loop .inv .2) (low .ensures) obeyed),
     )
 
 returns : tie.Need-returns Inv-loop μ-loop Inv-pairs μ-pairs
@@ -229,29 +216,28 @@ returns c =
 
 returns-2 : tie.Need-returns-2 Inv-loop μ-loop Inv-pairs μ-pairs
 returns-2 c =
-    let start = c .before .before .before .before .before .before .before .before .before .before .before .before .before .before .before .before .before .before .before .before .before .before in
+    let start = c .before .before .before .before .before .before .before .before .before .before .before .before .before .before .before .before .before .before .before .before in
     let b = start .args .t1 in
-    let old = c .before .before .before .before .before .before .before .before .before .before .before .before .before .before .before .pairs in
-    let low = c .before .before .before .before .before .before .before .before .before .before .before .before .before .lowest in
-    let valids = c .before .before .before .before .before .before .before .before .before .before .before .before .before .before .before .before .before .before .before .marked in
+    let old = c .before .before .before .before .before .before .before .before .before .before .before .before .before .pairs in
+    let low = c .before .before .before .before .before .before .before .before .before .before .before .lowest in
+    let valids = c .before .before .before .before .before .before .before .before .before .before .before .before .before .before .before .before .before .marked in
     let here = old .inv .1 .member (low .result) (low .ensures .member) in
     let found = ap inferredOf (c .before .single .given .1) in
-    let sets = rw (c .before .before .before .before .before .intersection .ensures, c .before .before .before .before .intersection2 .ensures) at (c .before .before .before .at-job .ensures) in
-    rw found at (sets b (job-read b (start .pre) (valids .result) (λ x. ap (λ w. bit w x) (valids .ensures) ∙ bit-valid b x) (low .result) here))
+    let read = job-read b (start .pre) (valids .result) (λ x. ap (λ w. bit w x) (valids .ensures) ∙ bit-valid b x) (low .result) here in
+    rw found at (c .before .before .before .at-job .ensures b read)
 
 returns-3 : tie.Need-returns-3 Inv-loop μ-loop Inv-pairs μ-pairs
 returns-3 c =
-    let start = c .before .before .before .before .before .before .before .before .before .before .before .before .before .before .before .before .before .before .before .before .before .before .before .before .before .before .before .before .before .before .before .before .before .before .before .before .before .before in
+    let start = c .before .before .before .before .before .before .before .before .before .before .before .before .before .before .before .before .before .before .before .before .before .before .before .before .before .before .before .before .before .before .before .before .before .before .before in
     let b = start .args .t1 in
-    let loop = c .before .before .before .before .before .before .before .before .before .before .loop in
-    let low = c .before .before .before .before .before .before .before .before .lowest2 in
-    let found = ap inferredOf (c .before .pair .given .1) in
+    let h = start .pre in
+    let loop = c .before .before .before .before .before .before .before .before .before .before .before .loop in
+    let low = c .before .before .before .before .before .before .before .before .before .lowest2 in
     let k = low .result in
-    let read =
-    pair-read b (start .pre) _ _ _ _ _ _ (loop .inv .1) k (loop .inv .2 .member k (low .ensures .member)) _ _
-    (toZ-ofZ w32 _ (length-fits (lengths-within b (start .pre)) k))
-    (toZ-ofZ w32 _ (time-fits (ranges b (start .pre) k .latest)))
-    in
+    let late = c .before .before .before .before .before .is-late in
+    let is-late = simp (toZ-ofZ, length-fits (lengths-within b h) k, time-fits (ranges b h k .latest)) at (late .ensures) in
+    let read = pair-read b h _ _ _ _ _ _ (loop .inv .1) k (loop .inv .2 .member k (low .ensures .member)) (late .result) is-late in
+    let found = ap inferredOf (c .before .pair .given .1) in
     rw found at (c .before .before .before .at-pair .ensures (view b) read)
 
 pub find-spec : {M : Type 1} → statement M
@@ -271,8 +257,6 @@ find-spec =
     element-copy-out-after
     mul-before
     element-copy-out-before
-    intersection-requires
-    intersection-requires-2
     at-job-requires
     enum-known-single
     enum-told
@@ -281,20 +265,19 @@ find-spec =
     mul-sum-2
     element-copy-out-sum-2
     sum-requires
-    without-requires-2
-    difference-requires
-    difference-requires-2
+    partners-requires
     loop-holds
     pairs-less
     pairs-again
     lowest-requires-2
-    without-requires-3
+    without-requires-2
+    mul-is-late
+    element-copy-out-is-late
+    mul-is-late-2
+    element-copy-out-is-late-2
+    is-late-requires
     mul-at-pair
     element-copy-out-at-pair
-    mul-at-pair-2
-    element-copy-out-at-pair-2
-    mul-at-pair-3
-    element-copy-out-at-pair-3
     at-pair-requires
     enum-known-pair
     enum-told-2
