@@ -4,7 +4,7 @@ ghost use Rattle.board.specs.Paper.Limits.{emptyBoard};
 ghost use Rattle.board.specs.Paper.Refusals.{numberOf};
 
 pub mod facts;
-pub mod limits;
+pub mod range;
 
 // A place k below `jobs` is job k. A place without a job holds 0 in everything. Bit k of `after[i]` is the arc from i to k,
 // and bit i of `before[k]` is the same arc, kept a second time so that either set is one word.

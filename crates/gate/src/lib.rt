@@ -1,9 +1,9 @@
 // "Refusals by the gate": the checks 1 to 7 of the table in their order, as far as each call has them.
 use board::Board;
 use board::Refusal;
-use board::limits::between;
-use board::limits::is_length;
-use board::limits::is_time;
+use board::range::between;
+use board::range::is_length;
+use board::range::is_time;
 ghost use mathlib.Core.Path.{_≡_};
 ghost use mathlib.Core.Bool.{_&&_};
 ghost use mathlib.Core.List.{List, [], _∷_};

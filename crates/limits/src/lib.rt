@@ -1,8 +1,8 @@
 // The test of "the board handed in breaks a limit above, [or] keeps something twice that doesn't agree".
 use board::Board;
-use board::limits::between;
-use board::limits::is_length;
-use board::limits::is_time;
+use board::range::between;
+use board::range::is_length;
+use board::range::is_time;
 ghost use mathlib.Core.Path.{_≡_};
 ghost use mathlib.Core.Bool.{_&&_};
 ghost use Prim.Native.Nat.{_<_, _≤_};

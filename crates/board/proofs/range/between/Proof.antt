@@ -1,8 +1,8 @@
--- `board::limits::between` meets its contract: the second test is asked where the first holds. Assumes nothing.
+-- `board::range::between` meets its contract: the second test is asked where the first holds. Assumes nothing.
 use mir.ValLaws.{toZ-ofZ}
 use Rattle.board.specs.Tests.Limits.{between}
-use Rattle.board.proofs.limits.between.Statement.{statement}
-use Rattle.board.proofs.limits.between.Tie as tie
+use Rattle.board.proofs.range.between.Statement.{statement}
+use Rattle.board.proofs.range.between.Tie as tie
 
 returns : tie.Need-returns
 unfolding between

@@ -1,8 +1,8 @@
--- `board::limits::is_time` meets its contract, by that of `between`. Assumes nothing.
+-- `board::range::is_time` meets its contract, by that of `between`. Assumes nothing.
 use borrow.Author.Needs.{needs}
 use mir.ValLaws.{toZ-ofZ}
-use Rattle.board.proofs.limits.is_time.Statement.{statement}
-use Rattle.board.proofs.limits.is_time.Tie as tie
+use Rattle.board.proofs.range.is_time.Statement.{statement}
+use Rattle.board.proofs.range.is_time.Tie as tie
 
 between-requires : tie.Need-between-requires
 between-requires c κs = search needs
