@@ -12,7 +12,7 @@ use Rattle.minutes.specs.Linear.{eqZ}
 use Rattle.minutes.specs.Sum.{sum}
 use Rattle.board.specs.declared.Board.{Board}
 use Rattle.board.specs.Paper.Limits.{emptyBoard}
-use Rattle.board.specs.Tests.Limits.{all, implies, between, isTime, isLength, isZero, fits, isZeroRow, full, shape, holdsJob, holdsNothing, joinable, agrees, withinLimits}
+use Rattle.board.specs.Tests.Limits.{all, implies, between, isZero, fits, isZeroRow, full, shape, holdsJob, holdsNothing, joinable, agrees, withinLimits}
 use Rattle.board.specs.Paper.View.{rowOf}
 use Rattle.board.specs.Tests.Live.{live, valid}
 use Rattle.board.specs.Update.Updates.{exclude, tighten, update, _andThen_}

@@ -1,5 +1,5 @@
 -- The search at one job, over numbers: R4 and R5 on one side, and R6.
-use mathlib.Core.Path.{_≡_, refl, sym, ap, _∙_, subst⁻¹}
+use mathlib.Core.Path.{_≡_, ap, _∙_, subst⁻¹}
 use mathlib.Core.Bool.{Bool, true, false}
 use mathlib.Core.List.{List}
 use mathlib.Core.Option.{Option, none, some}
@@ -14,8 +14,8 @@ use Rattle.board.specs.Paper.View.{View, Live, Valid, Arc, Side, early, late, b
 use Rattle.board.specs.Paper.Limits.{Within}
 use Rattle.board.specs.Tests.Live.{roomy}
 use Rattle.board.specs.Tests.Decides.{Decides}
-use Rattle.board.specs.Paper.Facts.{Fact, is-bound, is-invalid, Holds}
-use Rattle.board.specs.Paper.Rules.{E, D, L, energy}
+use Rattle.board.specs.Paper.Facts.{Fact, is-bound, is-invalid}
+use Rattle.board.specs.Paper.Rules.{energy}
 use Rattle.updates.specs.declared.window.Window.{Window}
 use Rattle.updates.specs.Windows.{edge, windowOf}
 use Rattle.updates.specs.WindowLaws.{edge-bound}

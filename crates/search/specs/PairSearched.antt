@@ -12,11 +12,11 @@ use Rattle.words.specs.BitLaws.{bit-zero}
 use Rattle.minutes.specs.Bools.{is-true, refuted}
 use Rattle.board.specs.Paper.Limits.{jobLimit}
 use Rattle.board.specs.Paper.View.{View, Live, Valid, Arc}
-use Rattle.board.specs.Paper.Facts.{Fact, is-arc, is-invalid, Holds}
+use Rattle.board.specs.Paper.Facts.{Fact, is-arc, is-invalid}
 use Rattle.board.specs.Paper.Rules.{E, D, L}
 use Rattle.board.specs.Tests.Live.{valid}
 use Rattle.board.specs.Tests.Decides.{Decides, retested, _and_, negated, holds, eq, valid-is, earlier}
-use Rattle.board.specs.Inference.Infers.{Infers, r1, r2, r3}
+use Rattle.board.specs.Inference.Infers.{r1, r2, r3}
 use Rattle.search.specs.Searched.{Searched, PairObeys}
 
 -- the members of w: jobs after k, which is valid and after i, that are neither i nor after i

@@ -2,12 +2,12 @@
 -- have been searched, and nothing is left to infer there.
 use mathlib.Core.Path.{_≡_, refl, ap, _∙_}
 use mathlib.Core.Logic.{_≢_}
-use mathlib.Core.Bool.{Bool, true}
+use mathlib.Core.Bool.{Bool}
 use Prim.Native.Nat.{ℕ, _<_, _^_}
 use lib.IntN.{ℤ, _+ℤ_}
 use lib.ListN.{getD}
 use lib.Signed.{ltZ}
-use Rattle.words.specs.Bit.{bit, intersection, difference, without}
+use Rattle.words.specs.Bit.{bit, difference, without}
 use Rattle.words.specs.BitLaws.{bit-intersection, bit-difference, bit-without, without-lt, difference-lt}
 use Rattle.words.specs.Walk.{Left, none-left}
 use Rattle.minutes.specs.Bools.{is-true, refuted}

@@ -1,13 +1,11 @@
 -- What a search for the next inference says, at one job, at one pair of jobs and over the whole view. Any way of searching
 -- that says this serves the closure and check 0.
-use mathlib.Core.Path.{_≡_}
 use mathlib.Core.Logic.{_≢_}
 use mathlib.Core.Bool.{Bool}
 use mathlib.Core.Option.{Option, none, some}
 use Prim.Native.Nat.{ℕ}
 use lib.IntN.{ℤ, _+ℤ_}
 use lib.Signed.{_≤ℤ_, _<ℤ_}
-use Rattle.minutes.specs.Linear.{whole}
 use Rattle.board.specs.Paper.View.{View, Live, Valid, Arc, Side, bound}
 use Rattle.board.specs.Paper.Facts.{Fact, Holds}
 use Rattle.board.specs.Paper.Rules.{E, D, L, energy}

@@ -11,7 +11,7 @@ use lib.Bits.{and-le-l}
 use lib.Count.{trailingZeros, under}
 use lib.Dec.{eqb}
 use borrow.Author.Tests.{eq-eqb, ne-eqb}
-use Rattle.words.specs.Bit.{bit, singleton, difference, without, Lowest}
+use Rattle.words.specs.Bit.{bit, difference, without, Lowest}
 use Rattle.words.specs.BitLaws.{bit-low, bit-half, bit-zero, bit-without, without-lt}
 
 pub trailing-lowest : (n w : ℕ) → w ≢ 0 → w < 2 ^ n → Lowest n w (trailingZeros n w)

@@ -1,5 +1,4 @@
 -- What the values of the code's types stand for in the paper.
-use Prim.Native.Nat.{ℕ}
 use lib.IntN.{ℤ, negℤ}
 use Rattle.board.specs.declared.facts.Side as Sides
 use Rattle.board.specs.declared.facts.Fact as Facts

@@ -1,20 +1,18 @@
 -- What every place of a board within its limits holds, job or no job: times, a length or 0, and words of 64 bits. So no proof
 -- about the code has to ask first whether a place holds a job.
 use mathlib.Core.Path.{_≡_, ap}
-use mathlib.Core.Bool.{true}
 use Prim.Native.Nat.{ℕ, _<_, _≤_, _^_}
 use native.Mathlib.Decide.{ℕ-discrete, decLt}
 use native.Mathlib.Omega.{arith}
 use lib.IntN.{pos, _+ℤ_}
 use lib.ListN.{getD}
 use lib.Signed.{_≤ℤ_}
-use Rattle.words.specs.Bit.{bit}
 use Rattle.words.specs.BitLaws.{bits-bound}
 use Rattle.minutes.specs.Bools.{is-false}
 use Rattle.minutes.specs.Linear.{whole, plus}
 use Rattle.minutes.specs.Time.{Moderate}
 use Rattle.board.specs.declared.Board.{Board}
-use Rattle.board.specs.Paper.View.{Row, view, rowOf}
+use Rattle.board.specs.Paper.View.{Row, rowOf}
 use Rattle.board.specs.Paper.Limits.{Within, IsTime, RowLimits, zeroRow, jobLimit, longest}
 
 -- the numbers of a row at any place

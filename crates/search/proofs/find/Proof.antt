@@ -1,6 +1,6 @@
 -- `search::find` meets its contract: where a row and its pairs have been searched without a finding, nothing is left
 -- to infer there; the rows and the pairs that are left are words, which get smaller. Assumes nothing.
-use mathlib.Core.Path.{_≡_, refl, sym, ap, _∙_, subst, subst⁻¹}
+use mathlib.Core.Path.{_≡_, refl, ap, _∙_, subst}
 use Prim.Native.Nat.{ℕ}
 use lib.ListN.{getD}
 use mir.Syntax.{w32}

@@ -1,5 +1,4 @@
 -- `words::lowest` meets its contract: the trailing zeros of a word that is not 0 end at its least member. Assumes nothing.
-use borrow.Author.Needs.{needs}
 use native.Mathlib.Omega.{arith}
 use Rattle.words.specs.Walk.{trailing-lowest}
 use Rattle.words.proofs.lowest.Statement.{statement}

@@ -1,4 +1,4 @@
--- `search::at_job` meets its contract: R6 by the window, R4 and R5 by the greatest sums. Assumes nothing.
+-- `search::job::at_job` meets its contract: R6 by the window, R4 and R5 by the greatest sums. Assumes nothing.
 use mathlib.Core.Path.{sym, ap, _∙_}
 use mir.ValLaws.{toZ-ofZ}
 use borrow.Author.Tests.{not-true, not-false}
@@ -8,8 +8,8 @@ use Rattle.energy.specs.Laws.{time-fits, length-fits, length-moderate}
 use Rattle.search.specs.Values.{inferredOf}
 use Rattle.search.specs.JobSearched.{read-early, read-late, room-is, says-room, says-late}
 use borrow.Author.Needs.{needs}
-use Rattle.search.proofs.at_job.Statement.{statement}
-use Rattle.search.proofs.at_job.Tie as tie
+use Rattle.search.proofs.job.at_job.Statement.{statement}
+use Rattle.search.proofs.job.at_job.Tie as tie
 
 mul-t13 : tie.Need-mul-t13
 mul-t13 c = search needs
