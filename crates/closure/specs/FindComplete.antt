@@ -7,11 +7,12 @@ use lib.IntN.{ℤ, pos, _+ℤ_}
 use lib.Signed.{ltZ, _≤ℤ_}
 use Rattle.minutes.specs.Bools.{is-true, is-false, refuted}
 use Rattle.minutes.specs.Linear.{whole, plus}
-use Rattle.minutes.specs.Sum.{total-subset, least-member}
+use Rattle.minutes.specs.Sum.{total-subset}
 use Rattle.board.specs.Paper.View.{View, Live, Valid, Side, early, late, bound, Beyond}
 use Rattle.board.specs.Paper.Facts.{Fact}
 use Rattle.board.specs.Paper.Rules.{energy}
 use Rattle.board.specs.Inference.Infers.{Pushing, r1, r2, r3, r45, r6, Obeys}
+use Rattle.energy.specs.SumBeyond.{SumBeyond, pushing-sum}
 use Rattle.closure.specs.Find.{_orElse_, pushers, pushed, push, next, find}
 use Rattle.closure.specs.FindTests.{room-is, exclude-is, order-is, join-is, pusher-is, push-is}
 use Rattle.closure.specs.Search.{guard-none, orElse-none, first-none}
@@ -52,27 +53,28 @@ module _ (v : View) (lengths : (k : ℕ) → Valid v k → pos 0 ≤ℤ v .row k
       in
       omega whole
 
-  -- where x is the member of S with the least bound, all of S are pushers
-  energy-low : (s : Side) (j : ℕ) (S : ℕ → Bool) {m : ℤ} → Pushing v s j S m → (x : ℕ) → S x ≡ true
-      → ((k : ℕ) → k < v .jobs → S k ≡ true → bound s (v .row x) ≤ℤ bound s (v .row k))
-      → energy v S ≤ℤ energy v (pushers v s x j)
-  energy-low s j S p x sx least =
-      total-subset (v .jobs) S (pushers v s x j) (λ k. v .row k .length)
-      (λ k lk sk. pusher-is v s x j k .show ((p .valid k sk, p .beyond k sk), least k lk sk))
-      (λ k lk e. lengths k (pusher-is v s x j k .yes e .0 .0))
+  -- a set that starts at x lies among the pushers that start at x
+  energy-low : (s : Side) (j : ℕ) (z : ℤ) (p : SumBeyond v s j z) → energy v (p .set) ≤ℤ energy v (pushers v s (p .first) j)
+  energy-low s j z p =
+      total-subset (v .jobs) (p .set) (pushers v s (p .first) j) (λ k. v .row k .length)
+      (λ k lk sk. pusher-is v s (p .first) j k .show (p .beyond k sk, p .least k sk))
+      (λ k lk e. lengths k (pusher-is v s (p .first) j k .yes e .0 .0))
 
   push-kept : (s : Side) (j : ℕ) (S : ℕ → Bool) (m : ℤ) → Live v j → Pushing v s j S m → (m +ℤ energy v S) ≤ℤ bound s (v .row j)
   unfolding pushed
   push-kept s j S m lj p =
-      let start = p .member in
-      let (x, lx, sx, least) = least-member (v .jobs) S (λ k. bound s (v .row k)) start (p .valid start (p .inside) .0) (p .inside) in
+      let (z, sum, l) = pushing-sum v s j S m p in
+      let x = sum .first in
+      let (vx, bx) = sum .beyond x (sum .member) in
+      let start = bound s (v .row x) in
       omega (
         whole,
-        p .low x sx,
-        energy-low s j S p x sx least,
-        pushed-low s x j (p .valid x sx) lj (p .beyond x sx),
-        plus m (energy v S),
-        plus (bound s (v .row x)) (energy v (pushers v s x j)),
+        l,
+        sum .is,
+        energy-low s j z sum,
+        pushed-low s x j vx lj bx,
+        plus start (energy v (sum .set)),
+        plus start (energy v (pushers v s x j)),
       )
 
   pub find-complete : Obeys v

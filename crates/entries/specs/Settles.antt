@@ -1,5 +1,4 @@
 -- The closure with an entry is the least board above b that shows the entry and obeys the rules, or there is none.
-use mathlib.Core.Path.{_≡_}
 use mathlib.Core.Option.{Option}
 use Rattle.board.specs.declared.Board.{Board}
 use Rattle.board.specs.Paper.View.{View, view}
@@ -7,7 +6,7 @@ use Rattle.board.specs.Inference.Infers.{Obeys}
 use Rattle.board.specs.Paper.Entries.{shown}
 use Rattle.board.specs.Paper.Limits.{Within}
 use Rattle.board.specs.Update.Extension.{Extension, Extends}
-use Rattle.board.specs.Update.Compose.{extends-then, one-outcome}
+use Rattle.board.specs.Update.Compose.{extends-then}
 use Rattle.closure.specs.Closes.{closure-closes}
 use Rattle.closure.specs.Closing.{closure}
 use Rattle.entries.specs.Paper.Entry.{Entry, withEntry}
@@ -37,7 +36,3 @@ settles b h e ok =
     closure
     (raw-shown b h e ok)
     λ c x. closure-closes c (x .more .within)
-
--- however it was found, the least board that shows the entry and obeys the rules is the computed one
-pub settled-is : (b : Board) → Within b → (e : Entry) → Allowed (b .jobs) e → (o : Option Board) → SettledTo b e o → closureWith b e ≡ o
-settled-is b h e ok o x = one-outcome _ (Settling b e) b (λ w both. both .1) (closureWith b e) o (settles b h e ok) x

@@ -33,14 +33,8 @@ greater-left a b = by-test (λ x. a ≤ℤ x) (ltZ a b) b a (λ e. omega whole) 
 pub greater-right : (a b : ℤ) → b ≤ℤ greater a b
 greater-right a b = by-test (λ x. b ≤ℤ x) (ltZ a b) b a (λ e. omega whole) (λ e. omega whole)
 
-pub greater-least : (a b c : ℤ) → a ≤ℤ c → b ≤ℤ c → greater a b ≤ℤ c
-greater-least a b c h l = by-test (λ x. x ≤ℤ c) (ltZ a b) b a (λ e. l) (λ e. h)
-
 pub lesser-left : (a b : ℤ) → lesser a b ≤ℤ a
 lesser-left a b = by-test (λ x. x ≤ℤ a) (ltZ a b) a b (λ e. omega whole) (λ e. omega whole)
 
 pub lesser-right : (a b : ℤ) → lesser a b ≤ℤ b
 lesser-right a b = by-test (λ x. x ≤ℤ b) (ltZ a b) a b (λ e. omega whole) (λ e. omega whole)
-
-pub lesser-greatest : (a b c : ℤ) → c ≤ℤ a → c ≤ℤ b → c ≤ℤ lesser a b
-lesser-greatest a b c h l = by-test (λ x. c ≤ℤ x) (ltZ a b) a b (λ e. h) (λ e. l)

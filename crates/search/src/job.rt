@@ -7,7 +7,6 @@ use energy::EnergyBound;
 use energy::energy_bound;
 use updates::window::Window;
 ghost use Prim.Native.Nat.{_<_};
-ghost use Rattle.minutes.specs.Time.{Moderate};
 ghost use Rattle.board.specs.Paper.Limits.{jobLimit};
 ghost use Rattle.board.specs.Paper.Values.{sideOf};
 ghost use Rattle.energy.specs.Energy.{boundOf, Times, Lengths};

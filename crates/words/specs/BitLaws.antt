@@ -9,7 +9,7 @@ use native.Mathlib.Nat.{div-eq-of-lt, div-one, lt-of-lt-of-le, lt-of-le-of-lt, m
 use native.Mathlib.Numerals.{add-one}
 use native.Mathlib.Omega.{arith}
 use lib.Arith.{bin-ind}
-use lib.Bits.{bitAnd, bitOr, and-le-l, and-le-r, and-mask, and-mod, and-shr, or-lt, or-mod, or-shr}
+use lib.Bits.{bitAnd, bitOr, and-le-l, and-le-r, and-mask, and-mod, and-shr, or-mod, or-shr}
 use lib.Dec.{eqb, ltb, eqb·zero-suc, eqb·suc-zero, eqb·suc-suc, leb·suc-zero, leb·suc-suc}
 use borrow.Author.Tests.{lt-ltb, le-ltb, eq-eqb, ne-eqb, not-false}
 use lib.Pow.{pow-lt, pow-mono, pow-pos, shr-shr, split}
@@ -146,14 +146,6 @@ module _ (n a b : ℕ) (ha : a < 2 ^ n) (hb : b < 2 ^ n) where
 
 -- ---- ranges
 
-pub union-lt : (n a b : ℕ) → a < 2 ^ n → b < 2 ^ n → union a b < 2 ^ n
-unfolding union
-union-lt = or-lt
-
-pub intersection-lt : (n a b : ℕ) → a < 2 ^ n → intersection a b < 2 ^ n
-unfolding intersection
-intersection-lt n a b h = lt-of-le-of-lt (and-le-l a b) h
-
 pub difference-lt : (n a b : ℕ) → a < 2 ^ n → difference n a b < 2 ^ n
 unfolding difference
 difference-lt n a b h = lt-of-le-of-lt (and-le-l a (2 ^ n - 1 - b)) h
@@ -167,10 +159,6 @@ singleton-lt n j h = pow-lt h
 pub bit-with : (w j k : ℕ) → bit (with w j) k ≡ (bit w k || eqb j k)
 unfolding with
 bit-with w j k = rw (bit-union, bit-singleton)
-
-pub with-lt : (n w j : ℕ) → w < 2 ^ n → j < n → with w j < 2 ^ n
-unfolding with
-with-lt n w j h l = union-lt n w (singleton j) h (singleton-lt n j l)
 
 pub bit-without : (n w j k : ℕ) → w < 2 ^ n → j < n → bit (without n w j) k ≡ (bit w k && not (eqb j k))
 unfolding without
@@ -198,9 +186,6 @@ bit-setOf (suc n) t zero = lowest (t 0) (setOf n (λ k. t (suc k))) ∙ rw (lt-l
 bit-setOf (suc n) t (suc k) =
     let u : ℕ → Bool = λ j. t (suc j) in
     others (t 0) (setOf n u) k ∙ bit-setOf n u k ∙ rw (leb·suc-suc (suc k) n)
-
-pub setOf-lt : (n m : ℕ) (t : ℕ → Bool) → n ≤ m → setOf n t < 2 ^ m
-setOf-lt n m t l = bits-bound m (setOf n t) λ k h. bit-setOf n t k ∙ rw (le-ltb k n (omega arith))
 
 -- the next job is put in where it passes the test
 module _ (n : ℕ) (t : ℕ → Bool) where

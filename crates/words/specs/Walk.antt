@@ -83,10 +83,6 @@ module _ (n w k : ℕ) (fits : w < 2 ^ n) (width : k < n) where
 pub walk-falls : {n w k next : ℕ} → w < 2 ^ n → Lowest n w k → next ≡ without n w k → next < w
 walk-falls {n} {w} {k} fits l e = rw e (without-falls n w k fits (l .width) (l .member))
 
--- nothing is left of an empty set
-pub all-out : (P : ℕ → Type 0) (S : ℕ → Bool) → ((j : ℕ) → S j ≡ true → bit 0 j ≡ false → P j) → (j : ℕ) → S j ≡ true → P j
-all-out P S h j s = h j s (bit-zero j)
-
 -- A walk over the numbers that have P: those that are left to be visited have it, and at all the others Q has been shown.
 pub record Left (n : ℕ) (P Q : ℕ → Type 0) (left : ℕ) : Type 0 where
   pub width : left < 2 ^ n
