@@ -1,6 +1,6 @@
 -- `search::find` meets its contract: where a row and its pairs have been searched without a finding, nothing is left
 -- to infer there; the rows and the pairs that are left are words, which get smaller. Assumes nothing.
-use mathlib.Core.Path.{_≡_, refl, ap, _∙_, subst}
+use mathlib.Core.Path.{_≡_, refl, ap, _∙_, subst, subst⁻¹}
 use Prim.Native.Nat.{ℕ}
 use lib.ListN.{getD}
 use mir.Syntax.{w32}
@@ -10,13 +10,14 @@ use Rattle.words.specs.Bit.{bit}
 use Rattle.words.specs.Walk.{walk-falls, visited}
 use Rattle.board.specs.Paper.Limits.{jobLimit}
 use Rattle.board.specs.Paper.View.{view, early, late}
-use Rattle.board.specs.Tests.Live.{valid}
+use Rattle.board.specs.Tests.Live.{live, valid}
 use Rattle.board.specs.Tests.Ranges.{ranges, time-moderate, length-moderate, end-moderate}
 use Rattle.search.specs.declared.Found.the-variants.{Nothing}
 use Rattle.search.specs.Values.{inferredOf}
 use Rattle.limits.specs.Marked.{bit-valid, bit-live}
 use Rattle.energy.specs.Laws.{time-fits, length-fits}
 use Rattle.energy.specs.Exact.{times-within, lengths-within}
+use Rattle.search.specs.Searched.{Searched, PairObeys}
 use Rattle.search.specs.PairsWalk.{RowsLeft, PairsLeft, InRow, rows-left, pairs-left, job-read, pair-read, rows-done, row-done}
 use borrow.Author.Needs.{needs}
 use Rattle.search.proofs.find.Statement.{statement}
@@ -35,6 +36,27 @@ Inv-pairs b valid live found₀ rows₀ found rows = (found ≡ Nothing) × Rows
 abbrev μ-pairs : tie.MeasureT-pairs
 μ-pairs b valid live found₀ rows₀ found rows = rows
 
+-- from a place of the code to those before it: the entry, the head of the walk over rows, the row's job, what was searched at
+-- the job alone, and the head of the walk over the row's pairs
+abbrev start-of : tie.At-pairs Inv-loop μ-loop Inv-pairs μ-pairs → tie.Start Inv-loop μ-loop Inv-pairs μ-pairs
+start-of c = c .before .before .before .before .before .before .before
+
+abbrev walk-of : tie.After-lowest Inv-loop μ-loop Inv-pairs μ-pairs → tie.At-pairs Inv-loop μ-loop Inv-pairs μ-pairs
+walk-of c = c .before .before
+
+abbrev row-of : tie.After-at-job Inv-loop μ-loop Inv-pairs μ-pairs → tie.After-lowest Inv-loop μ-loop Inv-pairs μ-pairs
+row-of c = c .before .before .before .before .before .before .before .before
+
+abbrev job-of : tie.At-loop Inv-loop μ-loop Inv-pairs μ-pairs → tie.After-at-job Inv-loop μ-loop Inv-pairs μ-pairs
+job-of c = c .before .before .before .before .before .before .before
+
+-- the words of the live jobs and of the valid ones
+lives-are : (c : tie.At-pairs Inv-loop μ-loop Inv-pairs μ-pairs) (x : ℕ) → bit (c .before .live .result) x ≡ live (view (start-of c .args .t1)) x
+lives-are c x = ap (λ w. bit w x) (c .before .live .ensures) ∙ bit-live (start-of c .args .t1) x
+
+valids-are : (c : tie.At-pairs Inv-loop μ-loop Inv-pairs μ-pairs) (x : ℕ) → bit (c .before .before .before .before .marked .result) x ≡ valid (view (start-of c .args .t1)) x
+valids-are c x = ap (λ w. bit w x) (c .before .before .before .before .marked .ensures) ∙ bit-valid (start-of c .args .t1) x
+
 marked-requires : tie.Need-marked-requires Inv-loop μ-loop Inv-pairs μ-pairs
 marked-requires c κs = search needs
 
@@ -44,8 +66,8 @@ live-requires c κs = search needs
 pairs-holds : tie.Need-pairs-holds Inv-loop μ-loop Inv-pairs μ-pairs
 pairs-holds c =
     let start = c .before .before .before .before .before .before in
-    let lives = c .live in
-    (refl, rows-left (start .args .t1) (start .pre) (lives .result) (lives .ok) λ x. ap (λ w. bit w x) (lives .ensures) ∙ bit-live (start .args .t1) x)
+    let b = start .args .t1 in
+    (refl, rows-left b (start .pre) (c .live .result) (c .live .ok) λ x. ap (λ w. bit w x) (c .live .ensures) ∙ bit-live b x)
 
 lowest-requires : tie.Need-lowest-requires Inv-loop μ-loop Inv-pairs μ-pairs
 lowest-requires c κs = search needs
@@ -67,9 +89,10 @@ element-copy-out-before c = search needs
 
 at-job-requires : tie.Need-at-job-requires Inv-loop μ-loop Inv-pairs μ-pairs
 at-job-requires c κs =
-    let start = c .before .before .before .before .before .before .before .before .before .before .before .before .before .before .before .before in
+    let row = c .before .before .before .before .before .before .before in
+    let start = start-of (walk-of row) in
     let b = start .args .t1 in
-    (c .before .before .before .before .before .before .before .lowest .ensures .width, times-within b (start .pre) early, times-within b (start .pre) late, lengths-within b (start .pre))
+    (row .lowest .ensures .width, times-within b (start .pre) early, times-within b (start .pre) late, lengths-within b (start .pre))
 
 enum-known-single : tie.Need-enum-known-single Inv-loop μ-loop Inv-pairs μ-pairs
 enum-known-single c = search needs
@@ -91,9 +114,10 @@ element-copy-out-sum-2 c = search needs
 
 sum-requires : tie.Need-sum-requires Inv-loop μ-loop Inv-pairs μ-pairs
 sum-requires c κs =
-    let start = c .before .before .before .before .before .before .before .before .before .before .before .before .before .before .before .before .before .before .before .before .before in
+    let row = row-of (c .before .before .before .before) in
+    let start = start-of (walk-of row) in
     let b = start .args .t1 in
-    let i = c .before .before .before .before .before .before .before .before .before .before .before .before .lowest .result in
+    let i = row .lowest .result in
     let r = ranges b (start .pre) i in
     simp (toZ-ofZ, time-fits (r .earliest), length-fits (lengths-within b (start .pre)) i) (time-moderate (r .earliest), length-moderate r)
 
@@ -102,44 +126,49 @@ partners-requires c κs = search needs
 
 loop-holds : tie.Need-loop-holds Inv-loop μ-loop Inv-pairs μ-pairs
 loop-holds c =
-    let start = c .before .before .before .before .before .before .before .before .before .before .before .before .before .before .before .before .before .before .before .before .before .before .before in
+    let job = c .before .before .before .before .before .before in
+    let row = row-of job in
+    let walk = walk-of row in
+    let start = start-of walk in
     let b = start .args .t1 in
     let h = start .pre in
-    let old = c .before .before .before .before .before .before .before .before .before .before .before .before .before .before .before .before .pairs in
-    let low = c .before .before .before .before .before .before .before .before .before .before .before .before .before .before .lowest in
+    let old = walk .pairs in
+    let low = row .lowest in
     let i = low .result in
     let here = old .inv .1 .member i (low .ensures .member) in
-    let valids = c .before .before .before .before .before .before .before .before .before .before .before .before .before .before .before .before .before .before .before .before .marked in
-    let is-valid : (x : ℕ) → bit (valids .result) x ≡ valid (view b) x = λ x. ap (λ w. bit w x) (valids .ensures) ∙ bit-valid b x in
-    let lives = c .before .before .before .before .before .before .before .before .before .before .before .before .before .before .before .before .before .live in
+    let lives = walk .before .live in
+    let valids = walk .before .before .before .before .marked in
     let none = ap inferredOf (c .before .before .before .before .enum-told .given .1) in
-    let rest = c .before .before .before .before .before .before .before .before .before .before .before .before .before .without in
+    let rest = job .before .before .before .before .before .before .before .without in
     let r = ranges b h i in
     let end = c .before .sum in
-    let row : InRow b (valids .result) (rest .result) i (getD (b .after) i 0) (getD (b .before) i 0) (toZ w32 (ofZ w32 (end .result))) =
+    let in-row : InRow b (valids .result) (rest .result) i (getD (b .after) i 0) (getD (b .before) i 0) (toZ w32 (ofZ w32 (end .result))) =
     record {
       live = here;
-      job = rw none at (c .before .before .before .before .before .before .at-job .ensures b (job-read b h (valids .result) is-valid i here));
-      onward = λ row. rw (rest .ensures) (visited jobLimit _ _ (old .rows) i (old .inv .1) (low .ensures) row);
-      is-valid = is-valid;
+      job = rw none at (job .at-job .ensures b (job-read b h (valids .result) (valids-are walk) i here));
+      onward = λ obeyed. subst⁻¹ (RowsLeft (view b)) (rest .ensures) (visited jobLimit _ _ (old .rows) i (old .inv .1) (low .ensures) obeyed);
+      is-valid = valids-are walk;
       is-after = refl;
       is-before = refl;
-      is-end = toZ-ofZ w32 (end .result) (record { sfits = end .ok }) ∙ simp (toZ-ofZ, time-fits (r .earliest), length-fits (lengths-within b h) i) at (end .ensures);
+      is-end =
+          toZ-ofZ w32 (end .result) (record { sfits = end .ok })
+          ∙ simp (toZ-ofZ, time-fits (r .earliest), length-fits (lengths-within b h) i) at (end .ensures);
     }
     in
-    let left = pairs-left b h (lives .result) (lives .ok) (λ x. ap (λ w. bit w x) (lives .ensures) ∙ bit-live b x) i (low .ensures .width) in
-    (old .inv .0, row, rw (c .partners .ensures) left)
+    (old .inv .0, in-row, rw (c .partners .ensures) (pairs-left b h (lives .result) (lives .ok) (lives-are walk) i (low .ensures .width)))
 
 pairs-less : tie.Need-pairs-less Inv-loop μ-loop Inv-pairs μ-pairs
 pairs-less c =
-    walk-falls (c .before .before .before .before .before .before .before .before .before .before .before .before .before .before .before .before .before .before .pairs .inv .1 .width) (c .before .before .before .before .before .before .before .before .before .before .before .before .before .before .before .before .lowest .ensures) (c .before .before .before .before .before .before .before .before .before .before .before .before .before .before .before .without .ensures)
+    let job = job-of (c .before) in
+    let row = row-of job in
+    walk-falls (walk-of row .pairs .inv .1 .width) (row .lowest .ensures) (job .before .before .before .before .before .before .before .without .ensures)
 
 pairs-again : tie.Need-pairs-again Inv-loop μ-loop Inv-pairs μ-pairs
 pairs-again c =
     let inv = c .before .loop .inv in
-    let b = c .before .before .before .before .before .before .before .before .before .before .before .before .before .before .before .before .before .before .before .before .before .before .before .before .before .args .t1 in
-    let i = c .before .before .before .before .before .before .before .before .before .before .before .before .before .before .before .before .lowest .result in
-    (inv .0, row-done _ _ _ _ _ _ _ (inv .1) (subst (PairsLeft (view b) i) (c .loop-test .left) (inv .2)))
+    let row = row-of (job-of (c .before)) in
+    let b = start-of (walk-of row) .args .t1 in
+    (inv .0, row-done _ _ _ _ _ _ _ (inv .1) (subst (PairsLeft (view b) (row .lowest .result)) (c .loop-test .left) (inv .2)))
 
 lowest-requires-2 : tie.Need-lowest-requires-2 Inv-loop μ-loop Inv-pairs μ-pairs
 lowest-requires-2 c κs = search needs
@@ -161,12 +190,13 @@ element-copy-out-is-late-2 c = search needs
 
 is-late-requires : tie.Need-is-late-requires Inv-loop μ-loop Inv-pairs μ-pairs
 is-late-requires c κs =
-    let start = c .before .before .before .before .before .before .before .before .before .before .before .before .before .before .before .before .before .before .before .before .before .before .before .before .before .before .before .before .before in
+    let at = c .before .before .before .before .before in
+    let row = row-of (job-of at) in
+    let start = start-of (walk-of row) in
     let b = start .args .t1 in
     let h = start .pre in
-    let i = c .before .before .before .before .before .before .before .before .before .before .before .before .before .before .before .before .before .before .before .before .lowest .result in
     let k = c .before .before .before .lowest2 .result in (
-      rw (c .before .before .before .before .before .loop .inv .1 .is-end) (end-moderate (ranges b h i)),
+      rw (at .loop .inv .1 .is-end) (end-moderate (ranges b h (row .lowest .result))),
       simp (toZ-ofZ, length-fits (lengths-within b h) k) (length-moderate (ranges b h k)),
     )
 
@@ -178,7 +208,7 @@ element-copy-out-at-pair c = search needs
 
 at-pair-requires : tie.Need-at-pair-requires Inv-loop μ-loop Inv-pairs μ-pairs
 at-pair-requires c κs =
-    (c .before .before .before .before .before .before .before .before .before .before .before .before .before .before .before .before .before .before .before .before .before .before .lowest .ensures .width, c .before .before .before .before .before .lowest2 .ensures .width)
+    (row-of (job-of (c .before .before .before .before .before .before .before)) .lowest .ensures .width, c .before .before .before .before .before .lowest2 .ensures .width)
 
 enum-known-pair : tie.Need-enum-known-pair Inv-loop μ-loop Inv-pairs μ-pairs
 enum-known-pair c = search needs
@@ -186,59 +216,58 @@ enum-known-pair c = search needs
 enum-told-2 : tie.Need-enum-told-2 Inv-loop μ-loop Inv-pairs μ-pairs
 enum-told-2 c = search needs
 
+-- what the search at a pair says of the board
+pair-searched : (c : tie.After-at-pair Inv-loop μ-loop Inv-pairs μ-pairs)
+    → let row = row-of (job-of (c .before .before .before .before .before .before .before .before)) in
+    let v = view (start-of (walk-of row) .args .t1) in
+    Searched v (PairObeys v (row .lowest .result) (c .before .before .before .before .before .before .lowest2 .result)) (inferredOf (c .at-pair .result))
+pair-searched c =
+    let at = c .before .before .before .before .before .before .before .before in
+    let start = start-of (walk-of (row-of (job-of at))) in
+    let b = start .args .t1 in
+    let h = start .pre in
+    let low = c .before .before .before .before .before .before .lowest2 in
+    let k = low .result in
+    let test = c .before .before .is-late in
+    let is-late = simp (toZ-ofZ, length-fits (lengths-within b h) k, time-fits (ranges b h k .latest)) at (test .ensures) in
+    let member = at .loop .inv .2 .member k (low .ensures .member) in
+    c .at-pair .ensures (view b) (pair-read b h _ _ _ _ _ _ (at .loop .inv .1) k member (test .result) is-late)
+
 loop-less : tie.Need-loop-less Inv-loop μ-loop Inv-pairs μ-pairs
 loop-less c =
     walk-falls (c .before .before .before .before .before .before .before .before .before .before .loop .inv .2 .width) (c .before .before .before .before .before .before .before .before .lowest2 .ensures) (c .before .before .before .before .before .before .before .without2 .ensures)
 
 loop-again : tie.Need-loop-again Inv-loop μ-loop Inv-pairs μ-pairs
 loop-again c =
-    let start = c .before .before .before .before .before .before .before .before .before .before .before .before .before .before .before .before .before .before .before .before .before .before .before .before .before .before .before .before .before .before .before .before .before .before in
-    let b = start .args .t1 in
-    let h = start .pre in
     let loop = c .before .before .before .before .before .before .before .before .before .before .loop in
     let low = c .before .before .before .before .before .before .before .before .lowest2 in
-    let k = low .result in
-    let late = c .before .before .before .before .is-late in
-    let is-late = simp (toZ-ofZ, length-fits (lengths-within b h) k, time-fits (ranges b h k .latest)) at (late .ensures) in
-    let read = pair-read b h _ _ _ _ _ _ (loop .inv .1) k (loop .inv .2 .member k (low .ensures .member)) (late .result) is-late in
     let none = ap inferredOf (c .enum-told2 .given .1) in
-    let obeyed = rw none at (c .before .before .at-pair .ensures (view b) read) in (
+    let obeyed = rw none at (pair-searched (c .before .before)) in (
       loop .inv .0,
       loop .inv .1,
-      rw (c .before .before .before .before .before .before .before .without2 .ensures) (visited jobLimit _ _ (loop .others) k (loop .inv .2) (low .ensures) obeyed),
+      rw (c .before .before .before .before .before .before .before .without2 .ensures) (visited jobLimit _ _ (loop .others) (low .result) (loop .inv .2) (low .ensures) obeyed),
     )
 
 returns : tie.Need-returns Inv-loop μ-loop Inv-pairs μ-pairs
 returns c =
-    let start = c .before .before .before .before .before .before .before .before in
+    let start = start-of (c .before) in
     let inv = c .before .pairs .inv in
     rw (inv .0) (rows-done (start .args .t1) (start .pre) (subst (RowsLeft (view (start .args .t1))) (c .pairs-test .left) (inv .1)))
 
 returns-2 : tie.Need-returns-2 Inv-loop μ-loop Inv-pairs μ-pairs
 returns-2 c =
-    let start = c .before .before .before .before .before .before .before .before .before .before .before .before .before .before .before .before .before .before .before .before in
+    let job = c .before .before .before in
+    let row = row-of job in
+    let walk = walk-of row in
+    let start = start-of walk in
     let b = start .args .t1 in
-    let old = c .before .before .before .before .before .before .before .before .before .before .before .before .before .pairs in
-    let low = c .before .before .before .before .before .before .before .before .before .before .before .lowest in
-    let valids = c .before .before .before .before .before .before .before .before .before .before .before .before .before .before .before .before .before .marked in
-    let here = old .inv .1 .member (low .result) (low .ensures .member) in
-    let found = ap inferredOf (c .before .single .given .1) in
-    let read = job-read b (start .pre) (valids .result) (λ x. ap (λ w. bit w x) (valids .ensures) ∙ bit-valid b x) (low .result) here in
-    rw found at (c .before .before .before .at-job .ensures b read)
+    let here = walk .pairs .inv .1 .member (row .lowest .result) (row .lowest .ensures .member) in
+    let read = job-read b (start .pre) (walk .before .before .before .before .marked .result) (valids-are walk) (row .lowest .result) here in
+    rw (ap inferredOf (c .before .single .given .1)) at (job .at-job .ensures b read)
 
 returns-3 : tie.Need-returns-3 Inv-loop μ-loop Inv-pairs μ-pairs
 returns-3 c =
-    let start = c .before .before .before .before .before .before .before .before .before .before .before .before .before .before .before .before .before .before .before .before .before .before .before .before .before .before .before .before .before .before .before .before .before .before .before in
-    let b = start .args .t1 in
-    let h = start .pre in
-    let loop = c .before .before .before .before .before .before .before .before .before .before .before .loop in
-    let low = c .before .before .before .before .before .before .before .before .before .lowest2 in
-    let k = low .result in
-    let late = c .before .before .before .before .before .is-late in
-    let is-late = simp (toZ-ofZ, length-fits (lengths-within b h) k, time-fits (ranges b h k .latest)) at (late .ensures) in
-    let read = pair-read b h _ _ _ _ _ _ (loop .inv .1) k (loop .inv .2 .member k (low .ensures .member)) (late .result) is-late in
-    let found = ap inferredOf (c .before .pair .given .1) in
-    rw found at (c .before .before .before .at-pair .ensures (view b) read)
+    rw (ap inferredOf (c .before .pair .given .1)) at (pair-searched (c .before .before .before))
 
 pub find-spec : {M : Type 1} → statement M
 find-spec =
