@@ -235,7 +235,8 @@ pair-searched c =
 
 loop-less : tie.Need-loop-less Inv-loop μ-loop Inv-pairs μ-pairs
 loop-less c =
-    walk-falls (c .before .before .before .before .before .before .before .before .before .before .loop .inv .2 .width) (c .before .before .before .before .before .before .before .before .lowest2 .ensures) (c .before .before .before .before .before .before .before .without2 .ensures)
+    let next = c .before .before .before .before .before .before .before in
+    walk-falls (next .before .before .before .loop .inv .2 .width) (next .before .lowest2 .ensures) (next .without2 .ensures)
 
 loop-again : tie.Need-loop-again Inv-loop μ-loop Inv-pairs μ-pairs
 loop-again c =

@@ -1,15 +1,48 @@
 -- `search::job::at_job` meets its contract: R6 by the window, R4 and R5 by the greatest sums. Assumes nothing.
-use mathlib.Core.Path.{sym, ap, _∙_}
+use mathlib.Core.Path.{_≡_, sym, ap, _∙_}
 use mir.ValLaws.{toZ-ofZ}
+use denote.Ref.{now}
 use borrow.Author.Tests.{not-true, not-false}
-use Rattle.board.specs.Paper.View.{view}
+use Rattle.board.specs.declared.Board.{Board}
+use Rattle.board.specs.Paper.View.{early, view, rowOf}
+use Rattle.board.specs.Tests.Live.{roomy}
 use Rattle.board.specs.Tests.Ranges.{time-moderate}
 use Rattle.energy.specs.Laws.{time-fits, length-fits, length-moderate}
 use Rattle.search.specs.Values.{inferredOf}
-use Rattle.search.specs.JobSearched.{read-early, read-late, room-is, says-room, says-late}
+use Rattle.search.specs.Searched.{Searched}
+use Rattle.search.specs.JobSearched.{SideObeys, JobRead, read-early, read-late, room-is, says-room, says-late}
 use borrow.Author.Needs.{needs}
 use Rattle.search.proofs.job.at_job.Statement.{statement}
 use Rattle.search.proofs.job.at_job.Tie as tie
+
+-- from the window's test to the entry, and what the arguments there are read from
+abbrev start-of : tie.After-holds → tie.Start
+start-of c = c .before .before .before .before
+
+abbrev Read : tie.Start → Board → Type 0
+Read s b =
+    let a = s .args in
+    JobRead b (a .i) (now (a .earliest)) (now (a .latest)) (now (a .lengths)) (a .valid) (a .before) (a .after)
+
+room-tested : (c : tie.After-holds) (b : Board) → Read (start-of c) b → c .holds .result ≡ roomy (rowOf b (start-of c .args .i))
+room-tested c b h =
+    let (_, starts, ends, work) = start-of c .pre in
+    let i = start-of c .args .i in
+    simp (toZ-ofZ, time-fits (starts .time i), time-fits (ends .time i), length-fits work i) at (c .holds .ensures)
+    ∙ room-is b i _ _ _ _ _ _ h
+
+-- R4
+raise-searched : (c : tie.After-at-side) (b : Board)
+    → let start = start-of (c .before .before .before .before) in
+    Read start b → Searched (view b) (SideObeys (view b) early (start .args .i)) (inferredOf (c .at-side .result))
+raise-searched c b h =
+    let start = start-of (c .before .before .before .before) in
+    let (_, starts, ends, work) = start .pre in
+    let i = start .args .i in
+    let push = c .before .energy-bound in
+    let sums = rw (c .before .before .intersection .ensures) at (push .ensures) in
+    let side = simp (toZ-ofZ, time-fits (starts .time i), time-fits (ends .time i)) at (c .at-side .ensures) in
+    side (view b) (read-early b i _ _ _ _ _ _ h (push .result) sums)
 
 mul-t13 : tie.Need-mul-t13
 mul-t13 c = search needs
@@ -32,23 +65,18 @@ element-copy-out-holds-2 c = search needs
 holds-requires : tie.Need-holds-requires
 holds-requires c κs =
     let start = c .before .before .before in
-    let (_, early, _, work) = start .pre in
+    let (_, starts, _, work) = start .pre in
     let i = start .args .i in
-    simp (toZ-ofZ, time-fits (early .time i), length-fits work i) (time-moderate (early .time i), length-moderate work i)
+    simp (toZ-ofZ, time-fits (starts .time i), length-fits work i) (time-moderate (starts .time i), length-moderate work i)
 
 returns : tie.Need-returns
-returns c b h =
-    let start = c .before .before .before .before .before in
-    let (_, early, late, work) = start .pre in
-    let i = start .args .i in
-    let room = simp (toZ-ofZ, time-fits (early .time i), time-fits (late .time i), length-fits work i) at (c .before .holds .ensures) in
-    says-room b i (h .live) (sym (room-is b i _ _ _ _ _ _ h) ∙ sym room ∙ not-true _ (c .if1 .taken))
+returns c b h = says-room b _ (h .live) (sym (room-tested (c .before) b h) ∙ not-true _ (c .if1 .taken))
 
 intersection-requires : tie.Need-intersection-requires
 intersection-requires c κs = search needs
 
 energy-bound-requires : tie.Need-energy-bound-requires
-energy-bound-requires c κs = let (_, early, _, work) = c .before .before .before .before .before .before .pre in (early, work)
+energy-bound-requires c κs = let (_, starts, _, work) = start-of (c .before .before) .pre in (starts, work)
 
 at-side-requires : tie.Need-at-side-requires
 at-side-requires c κs = search needs
@@ -57,15 +85,7 @@ enum-known-raised : tie.Need-enum-known-raised
 enum-known-raised c = search needs
 
 returns-2 : tie.Need-returns-2
-returns-2 c b h =
-    let start = c .before .before .before .before .before .before .before .before .before .before .before in
-    let (_, early, late, work) = start .pre in
-    let i = start .args .i in
-    let found = ap inferredOf (c .before .raised .given .1) in
-    let push = c .before .before .before .before .energy-bound in
-    let sums = rw (c .before .before .before .before .before .intersection .ensures) at (push .ensures) in
-    let side = simp (toZ-ofZ, time-fits (early .time i), time-fits (late .time i)) at (c .before .before .before .at-side .ensures) in
-    rw found at (side (view b) (read-early b i _ _ _ _ _ _ h (push .result) sums))
+returns-2 c b h = rw (ap inferredOf (c .before .raised .given .1)) at (raise-searched (c .before .before .before) b h)
 
 enum-told : tie.Need-enum-told
 enum-told c = search needs
@@ -74,28 +94,25 @@ intersection-requires-2 : tie.Need-intersection-requires-2
 intersection-requires-2 c κs = search needs
 
 energy-bound-requires-2 : tie.Need-energy-bound-requires-2
-energy-bound-requires-2 c κs = let (_, _, late, work) = c .before .before .before .before .before .before .before .before .before .before .before .pre in (late, work)
+energy-bound-requires-2 c κs = let (_, _, ends, work) = start-of (c .before .before .before .before .before .before .before) .pre in (ends, work)
 
 at-side-requires-2 : tie.Need-at-side-requires-2
 at-side-requires-2 c κs = search needs
 
 returns-3 : tie.Need-returns-3
 returns-3 c b h =
-    let start = c .before .before .before .before .before .before .before .before .before .before .before .before .before in
-    let (_, early, late, work) = start .pre in
+    let tested = c .before .before .before .before .before .before .before .before .before in
+    let start = start-of tested in
+    let (_, starts, ends, work) = start .pre in
     let i = start .args .i in
-    let room = simp (toZ-ofZ, time-fits (early .time i), time-fits (late .time i), length-fits work i) at (c .before .before .before .before .before .before .before .before .before .holds .ensures) in
     let none = ap inferredOf (c .before .before .before .enum-told .given .1) in
-    let push = c .before .before .before .before .before .before .energy-bound in
-    let pushes = rw (c .before .before .before .before .before .before .before .intersection .ensures) at (push .ensures) in
     let pull = c .before .energy-bound2 in
-    let pulls = rw (c .before .before .intersection2 .ensures) at (pull .ensures) in
-    let raised = simp (toZ-ofZ, time-fits (early .time i), time-fits (late .time i)) at (c .before .before .before .before .before .at-side .ensures) in
-    let lowered = simp (toZ-ofZ, time-fits (early .time i), time-fits (late .time i)) at (c .at-side2 .ensures) in
-    says-late b i (h .live) (sym (room-is b i _ _ _ _ _ _ h) ∙ sym room ∙ not-false _ (c .before .before .before .before .before .before .before .before .if1 .left))
-    (rw none at (raised (view b) (read-early b i _ _ _ _ _ _ h (push .result) pushes)))
+    let sums = rw (c .before .before .intersection2 .ensures) at (pull .ensures) in
+    let lowered = simp (toZ-ofZ, time-fits (starts .time i), time-fits (ends .time i)) at (c .at-side2 .ensures) in
+    says-late b i (h .live) (sym (room-tested tested b h) ∙ not-false _ (c .before .before .before .before .before .before .before .before .if1 .left))
+    (rw none at (raise-searched (c .before .before .before .before .before) b h))
     (inferredOf (c .at-side2 .result))
-    (lowered (view b) (read-late b i _ _ _ _ _ _ h (pull .result) pulls))
+    (lowered (view b) (read-late b i _ _ _ _ _ _ h (pull .result) sums))
 
 pub at-job-spec : {M : Type 1} → statement M
 at-job-spec =
