@@ -6,7 +6,7 @@ use mathlib.Core.List.{List}
 use mathlib.Core.Option.{Option, none, some}
 use Prim.Native.Nat.{ℕ}
 use native.Mathlib.Omega.{arith}
-use lib.IntN.{ℤ, negℤ, _+ℤ_}
+use lib.IntN.{ℤ, negℤ}
 use lib.Signed.{_≤ℤ_}
 use Rattle.words.specs.Bit.{bit}
 use Rattle.minutes.specs.Bools.{is-false}

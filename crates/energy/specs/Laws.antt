@@ -1,7 +1,7 @@
 -- Why striking jobs finds the greatest sum: the jobs still in play are all those with a bound as great as one of theirs, so
 -- every set that starts at one of them lies among them, and no set that starts at a struck job gives more than the best.
 use mathlib.Core.Path.{_≡_, refl, sym, ap, _∙_, subst, subst⁻¹}
-use mathlib.Core.Bool.{Bool, true, false}
+use mathlib.Core.Bool.{Bool, true, false, and-true}
 use mathlib.Core.List.{List}
 use mathlib.Core.Logic.{_≢_, _⊎_, inl, inr}
 use mathlib.Core.Option.{none, some}
@@ -47,7 +47,7 @@ unfolding sum
 load-none lengths w e = total-more 0 jobLimit (bit w) (lengthAt lengths) (omega arith) λ k l. ap (λ x. bit x k) e ∙ bit-zero k
 
 -- a time turned is a time
-turned-time : (s : Side) (z : ℤ) → IsTime z → IsTime (turned s z)
+pub turned-time : (s : Side) (z : ℤ) → IsTime z → IsTime (turned s z)
 turned-time early z t = t
 turned-time late z t = record { low = omega (whole, t .high, minus z); high = omega (whole, t .low, minus z) }
 
@@ -88,15 +88,24 @@ module _ {s : Side} {times lengths : List ℤ} {set : ℕ} where
   pub no-sum : set ≡ 0 → Greatest (Sum s times lengths set) none
   no-sum e z p = refuted (ap (λ w. bit w (p .first)) e ∙ bit-zero (p .first)) (p .inside (p .first) (p .member))
 
-  pub all-in-play : set < 2 ^ jobLimit → InPlay s times lengths set set firstMinute
-  all-in-play fits =
+  -- those above a floor that lies below every time are all
+  pub all-in-play : {kept : ℕ} {floor : ℤ} → Times times → set < 2 ^ jobLimit → ltZ floor firstMinute ≡ true → Above s times set floor kept
+      → InPlay s times lengths set kept firstMinute
+  all-in-play {kept} {floor} hours fits below above =
+      let same : kept ≡ set = omega (arith, part-at-most kept set (λ k e. sym (stays k) ∙ e), part-at-most set kept (λ k e. stays k ∙ e)) in
       record {
-        fits = fits;
-        inside = λ k e. e;
-        upward = λ x y p q l. q;
-        covered = λ z p e. absurd (refuted e (p .inside (p .first) (p .member)));
-        reached = inl (refl, refl);
+        fits = omega (arith, same);
+        inside = λ k e. sym (stays k) ∙ e;
+        upward = λ x y p q l. stays y ∙ q;
+        covered = λ z p e. absurd (refuted e (stays (p .first) ∙ p .inside (p .first) (p .member)));
+        reached = inl (same, refl);
       }
+    where
+      high : (k : ℕ) → ltZ floor (boundAt s times k) ≡ true
+      high k = omega (whole, below, turned-time s _ (hours .time k) .low)
+
+      stays : (k : ℕ) → bit kept k ≡ bit set k
+      stays k = above .is k ∙ rw (high k) (and-true (bit set k))
 
   pub none-in-play : {left : ℕ} {best : ℤ} → set ≢ 0 → left ≡ 0 → InPlay s times lengths set left best
       → Greatest (Sum s times lengths set) (some best)

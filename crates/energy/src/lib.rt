@@ -35,53 +35,47 @@ fn bound(side: Side, times: &[i32; Board::JOBS], k: usize) -> i32
     turned(side, times[k])
 }
 
-// The least bound of a set that has a member.
-fn least(side: Side, times: &[i32; Board::JOBS], set: u64) -> i32
-    requires { ⌜ energy.Times (now times) ⌝ }
-    requires { ⌜ set ≢ 0 ⌝ }
-    ensures { λ r. ⌜ energy.LeastBound (paper.sideOf side) (now (times .entry)) set r ⌝ }
-{
-    let first = words::lowest(set);
-    let mut left = words::without(set, first);
-    let mut least = bound(side, times, first);
-    while left != 0 {
-        let k = words::lowest(left);
-        left = words::without(left, k);
-        least = minutes::lesser(least, bound(side, times, k));
-    }
-    least
+// The jobs still in play, the least of their bounds, and the sum of their lengths.
+struct Play {
+    set: u64,
+    least: i32,
+    total: i32,
 }
 
-// The sum of the lengths in a set.
-fn total(lengths: &[i32; Board::JOBS], set: u64) -> i32
+// The jobs of a set whose bound is above `floor`. Where there are none, `least` says nothing.
+fn in_play(
+    side: Side,
+    times: &[i32; Board::JOBS],
+    lengths: &[i32; Board::JOBS],
+    set: u64,
+    floor: i32,
+) -> Play
+    requires { ⌜ energy.Times (now times) ⌝ }
     requires { ⌜ energy.Lengths (now lengths) ⌝ }
-    ensures { λ r. ⌜ r ≡ energy.load (now (lengths .entry)) set ⌝ }
-{
-    let mut sum = 0;
-    let mut left = set;
-    while left != 0 {
-        let k = words::lowest(left);
-        left = words::without(left, k);
-        sum = minutes::sum(sum, lengths[k]);
-    }
-    sum
-}
-
-// The jobs of a set whose bound is above `floor`.
-fn above(side: Side, times: &[i32; Board::JOBS], set: u64, floor: i32) -> u64
-    requires { ⌜ energy.Times (now times) ⌝ }
-    ensures { λ r. ⌜ energy.Above (paper.sideOf side) (now (times .entry)) set floor r ⌝ }
+    ensures { λ r. ⌜ energy.Above (paper.sideOf side) (now (times .entry)) set floor (r .set) ⌝ }
+    ensures { λ r. ⌜ (r .set ≢ 0 → energy.LeastBound (paper.sideOf side) (now (times .entry)) (r .set) (r .least)) ⌝ }
+    ensures { λ r. ⌜ r .total ≡ energy.load (now (lengths .entry)) (r .set) ⌝ }
 {
     let mut kept = set;
+    let mut least = Board::LAST_MINUTE;
+    let mut total = 0;
     let mut left = set;
     while left != 0 {
         let k = words::lowest(left);
         left = words::without(left, k);
-        if bound(side, times, k) <= floor {
+        let low = bound(side, times, k);
+        if low <= floor {
             kept = words::without(kept, k);
+        } else {
+            least = minutes::lesser(least, low);
+            total = minutes::sum(total, lengths[k]);
         }
     }
-    kept
+    Play {
+        set: kept,
+        least,
+        total,
+    }
 }
 
 // Over the jobs still in play take their least bound and all their lengths, keep the greatest such sum, strike every job
@@ -100,11 +94,12 @@ pub fn energy_bound(
         return EnergyBound::Unbounded;
     }
     let mut best = Board::FIRST_MINUTE;
-    let mut left = set;
-    while left != 0 {
-        let all = total(lengths, left);
-        best = minutes::greater(best, minutes::sum(least(side, times, left), all));
-        left = above(side, times, left, minutes::gap(best, all));
+    // every bound is above a floor that lies before the first minute
+    let mut play = in_play(side, times, lengths, set, Board::FIRST_MINUTE - 1);
+    while play.set != 0 {
+        best = minutes::greater(best, minutes::sum(play.least, play.total));
+        let floor = minutes::gap(best, play.total);
+        play = in_play(side, times, lengths, play.set, floor);
     }
     EnergyBound::At(turned(side, best))
 }
