@@ -70,14 +70,14 @@ module _ (n w k : ℕ) (fits : w < 2 ^ n) (width : k < n) where
       let clash : _≡_ {A = ℕ} 0 1 = cc in
       omega arith
 
-  -- what holds of each member taken out so far, and of this one, holds of each taken out now
-  pub taken-out : (P : ℕ → Type 0) (S : ℕ → Bool) → ((j : ℕ) → S j ≡ true → bit w j ≡ false → P j) → P k
-      → (j : ℕ) → S j ≡ true → bit (without n w k) j ≡ false → P j
-  taken-out P S before now j s out = go (ℕ-discrete j k)
+  -- what was shown at each number with A taken out so far, and at this one, is shown at each taken out now
+  pub taken-out : (P A : ℕ → Type 0) → ((j : ℕ) → A j → bit w j ≡ false → P j) → P k
+      → (j : ℕ) → A j → bit (without n w k) j ≡ false → P j
+  taken-out P A before now j has-it out = go (ℕ-discrete j k)
     where
       go : Dec (j ≡ k) → P j
       go (yes e) = subst⁻¹ P e now
-      go (no ne) = before j s (sym (without-other j ne) ∙ out)
+      go (no ne) = before j has-it (sym (without-other j ne) ∙ out)
 
 -- a walk that takes out the least member ends
 pub walk-falls : {n w k next : ℕ} → w < 2 ^ n → Lowest n w k → next ≡ without n w k → next < w
@@ -94,12 +94,8 @@ visited n P Q left k h low q =
     record {
       width = without-lt n left k (h .width);
       member = λ x e. h .member x (without-inside n left k (h .width) (low .width) x e);
-      done = λ x p e. go x p e (ℕ-discrete x k);
+      done = taken-out n left k (h .width) (low .width) Q P (h .done) q;
     }
-  where
-    go : (x : ℕ) → P x → bit (without n left k) x ≡ false → Dec (x ≡ k) → Q x
-    go x p e (yes r) = subst⁻¹ Q r q
-    go x p e (no ne) = h .done x p (sym (without-other n left k (h .width) (low .width) x ne) ∙ e)
 
 pub none-left : (n : ℕ) (P Q : ℕ → Type 0) → Left n P Q 0 → (x : ℕ) → P x → Q x
 none-left n P Q h x p = h .done x p (bit-zero x)

@@ -169,7 +169,7 @@ module _ {s : Side} {times lengths : List ℤ} {set : ℕ} {floor : ℤ} {kept :
             kept-fits = p .kept-fits;
             is = kept-are kept (p .is k ∙ rw (l .member, over)) λ j ne. refl;
             inside = λ j i. p .inside j (without-inside 64 left k (p .left-fits) (l .width) j i);
-            least = taken-out 64 left k (p .left-fits) (l .width) (λ j. lesser low b ≤ℤ boundAt s times j) (bit kept)
+            least = taken-out 64 left k (p .left-fits) (l .width) (λ j. lesser low b ≤ℤ boundAt s times j) (λ j. bit kept j ≡ true)
                 (λ j i out. omega (whole, p .least j i out, lesser-left low b)) (lesser-right low b);
             reached = by-test (Reached s times kept rest) (ltZ low b) low b (λ d. go (p .reached))
                 (λ d. inr (k, p .inside k (l .member), without-self 64 left k (p .left-fits) (l .width), refl));

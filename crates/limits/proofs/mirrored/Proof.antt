@@ -65,7 +65,7 @@ loop-again c =
     rw (c .before .before .before .without .ensures) (
       without-lt 64 (l .left) (m .result) (l .inv .0),
       λ j e. l .inv .1 j (without-inside 64 (l .left) (m .result) (l .inv .0) (m .ensures .width) j e),
-      taken-out 64 (l .left) (m .result) (l .inv .0) (m .ensures .width) in-word (bit (s .args .set)) (l .inv .2) now-in,
+      taken-out 64 (l .left) (m .result) (l .inv .0) (m .ensures .width) in-word (λ j. bit (s .args .set) j ≡ true) (l .inv .2) now-in,
     )
 
 returns-2 : tie.Need-returns-2 Inv-loop μ-loop
