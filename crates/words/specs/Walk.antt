@@ -1,7 +1,7 @@
 -- Walking a set by its least member: that the code's count of trailing zeros is the least member, and what is left once a
 -- member is taken out. A walk goes on until nothing is left. Assumes nothing.
 use Prim.Native.Nat.{ℕ, zero, suc, _/_, _%_, _^_, _≤_, _<_}
-use mathlib.Core.Bool.{Bool, true, false, and-true, and-false}
+use mathlib.Core.Bool.{true, false, and-true, and-false}
 use mathlib.Core.Path.{_≡_, refl, sym, ap, _∙_, subst⁻¹}
 use mathlib.Core.Logic.{_≢_}
 use native.Mathlib.Decide.{ℕ-discrete}
