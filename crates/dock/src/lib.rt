@@ -5,11 +5,14 @@ use closure::check::passes;
 use entries::Entered;
 use entries::PairAnswer;
 use entries::RowAnswer;
+use tries::PlanAnswer;
+use tries::Planned;
 ghost use mathlib.Core.Path.{_≡_};
 ghost use Rattle.closure.specs.Check as check;
 ghost use Rattle.entries.specs.Paper.Entry as entry;
 ghost use Rattle.entries.specs.Paper.Enter as paper;
 ghost use Rattle.entries.specs.Paper.Looking as looking;
+ghost use Rattle.tries.specs.Paper.Planner as planning;
 
 pub struct Dock {
     pub board: Board,
@@ -87,6 +90,17 @@ impl Dock {
             views::pair(self.board, a, b)
         } else {
             PairAnswer::Refused(Refusal::Board)
+        }
+    }
+
+    // "It takes the board and a budget, 0 to 1000000."
+    pub fn plan(self, budget: i32) -> Planned
+        ensures { λ r. ⌜ r ≡ planning.plan (self .board) budget ⌝ }
+    {
+        if self.passes() {
+            planner::plan(self.board, budget)
+        } else {
+            planner::unplanned(PlanAnswer::Refused(Refusal::Board))
         }
     }
 }

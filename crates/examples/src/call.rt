@@ -38,3 +38,7 @@ pub fn row(board: Board, job: u16) {
 pub fn pair(board: Board, a: i32, b: i32) {
     write::pair(Dock { board }.pair(a, b));
 }
+
+pub fn plan(board: Board, budget: i32) {
+    write::plan(Dock { board }.plan(budget));
+}

@@ -1,4 +1,4 @@
-// The paper's whole case, without its plan.
+// The paper's whole case, and plans that the tries find, fail to find or have no budget for.
 use crate::call;
 use crate::write;
 use board::Board;
@@ -11,10 +11,26 @@ pub fn whole() {
     let b = call::arc(b, 0, 2);
     call::row(b, 1);
     call::pair(b, 2, 1);
+    call::plan(b, 100);
     let b = call::cut(b, 1, 0, 85);
     call::row(b, 1);
     let b = call::mark(b, 1, 1);
     write::text(b"(tally ");
     write::natural(b.tally as u64);
     write::text(b")\n");
+}
+
+// Three jobs of 10 minutes in 25: the board accepts each, and the tries find no plan. With 30 minutes for one they do.
+pub fn plans() {
+    write::text(b"plans\n");
+    call::plan(Board::empty(), 0);
+    let b = call::addition(Board::empty(), 10, 0, 25, 1);
+    let b = call::addition(b, 10, 0, 25, 1);
+    let c = call::addition(b, 10, 0, 25, 1);
+    call::plan(c, 15);
+    call::plan(c, 14);
+    call::plan(c, -1);
+    call::plan(c, 1000001);
+    let c = call::addition(b, 10, 0, 30, 1);
+    call::plan(c, 1000000);
 }

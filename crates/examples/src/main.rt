@@ -1,4 +1,4 @@
-// M1 to M12 and the paper's whole case, without its plan, through the calls. Answers are written in the paper's text.
+// M1 to M12, the paper's whole case and some plans, through the calls. Answers are written in the paper's text.
 mod call;
 mod case;
 mod marked;
@@ -11,4 +11,5 @@ fn main() {
     marked::joins();
     marked::exclusion();
     case::whole();
+    case::plans();
 }

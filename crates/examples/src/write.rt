@@ -1,9 +1,12 @@
 // Answers in the paper's text, on standard output.
+use board::Board;
 use board::Refusal;
 use entries::Answer;
 use entries::PairAnswer;
 use entries::RowAnswer;
 use libc::STDOUT_FILENO;
+use tries::PlanAnswer;
+use tries::Planned;
 ghost use lib.IntN.{pos, negsuc};
 ghost use lib.Signed.{_≤ℤ_};
 
@@ -95,5 +98,48 @@ pub fn pair(a: PairAnswer) {
             text(b")\n");
         }
         PairAnswer::Refused(r) => refusal(r),
+    }
+}
+
+fn placement(job: u64, start: i32) {
+    text(b" (");
+    natural(job);
+    text(b" ");
+    time(start);
+    text(b")");
+}
+
+// The jobs placed with their starts, in job order.
+fn placements(placed: u64, starts: &[i32; Board::JOBS]) {
+    for job in 0..Board::JOBS {
+        if words::has(placed, job) {
+            placement(job as u64, starts[job]);
+        }
+    }
+}
+
+fn tries(tries: u32) {
+    text(b"(plan ");
+    natural(tries as u64);
+}
+
+pub fn plan(p: Planned) {
+    let answer = p.answer;
+    match answer {
+        PlanAnswer::Found(taken) => {
+            tries(taken);
+            text(b" (found");
+            placements(p.placed, &p.starts);
+            text(b"))\n");
+        }
+        PlanAnswer::None(taken) => {
+            tries(taken);
+            text(b" (none))\n");
+        }
+        PlanAnswer::Spent(budget) => {
+            tries(budget);
+            text(b" (spent))\n");
+        }
+        PlanAnswer::Refused(r) => refusal(r),
     }
 }

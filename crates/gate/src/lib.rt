@@ -1,4 +1,4 @@
-// "Refusals by the gate": the checks 1 to 7 of the table in their order, as far as each call has them.
+// "Refusals by the gate": the checks 1 to 7 of the table in their order, as far as each call has them, and the planner's 9.
 use board::Board;
 use board::Refusal;
 use board::range::between;
@@ -13,7 +13,7 @@ ghost use Rattle.minutes.specs.Linear.{eqZ};
 ghost use Rattle.board.specs.Tests.Limits as limits;
 ghost use Rattle.entries.specs.Paper.Entry as entry;
 ghost use Rattle.entries.specs.Paper.Gate as paper;
-ghost use Rattle.entries.specs.Paper.Gate.{Check, isJob, jobCheck, pairChecks, timeCheck, windowCheck, checks, gate};
+ghost use Rattle.entries.specs.Paper.Gate.{Check, isJob, jobCheck, pairChecks, timeCheck, windowCheck, checks, budgetCheck, gate};
 ghost use Rattle.gate.specs.Values.{refusalOf};
 
 // What the checks say of a call: no refusal, or the first that it meets.
@@ -43,6 +43,14 @@ pub fn mark_value(mark: i32) -> u8
     ensures { λ r. ⌜ r ≡ entry.number mark ⌝ }
 {
     mark as u8
+}
+
+// The number of tries that a budget allows.
+pub fn budget_value(budget: i32) -> u32
+    requires { ⌜ pos 0 ≤ℤ budget ⌝ }
+    ensures { λ r. ⌜ r ≡ entry.number budget ⌝ }
+{
+    budget as u32
 }
 
 // "numbered from 0"
@@ -136,4 +144,14 @@ pub fn addition_gate(jobs: usize, length: i32, earliest: i32, latest: i32, mark:
             window_lines(earliest, latest, line(Refusal::Mark, !taken, Gate::Open)),
         ),
     )
+}
+
+// "a budget, 0 to 1000000"
+const BUDGET: i32 = 1000000;
+
+// 9 budget
+pub fn budget_gate(budget: i32) -> Gate
+    ensures { λ r. ⌜ refusalOf r ≡ gate (budgetCheck budget ∷ []) ⌝ }
+{
+    line(Refusal::Budget, !between(0, BUDGET, budget), Gate::Open)
 }

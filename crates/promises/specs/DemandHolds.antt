@@ -1,4 +1,4 @@
--- Demand 3 for the entry calls holds of every list of calls, from an empty board with any tally within its limit.
+-- Demand 3 holds of every list of calls, from an empty board with any tally within its limit.
 use mathlib.Core.Path.{_≡_, refl}
 use mathlib.Core.List.{List, [], _∷_, _++_, List·Memᴰ·not-nil}
 use Prim.Native.Nat.{ℕ, _≤_}
@@ -24,6 +24,7 @@ use Rattle.entries.specs.Orderless.{least-orderless}
 use Rattle.entries.specs.Stepped.{step, outcome, reached-least}
 use Rattle.entries.specs.Played.{Held, admissible-snoc, played}
 use Rattle.entries.specs.Paper.Sequence.{Call}
+use Rattle.tries.specs.Ends.{plan-ends}
 use Rattle.promises.specs.Demand.{finalBoard, acceptedBy, Demand}
 
 -- a view without jobs infers nothing
@@ -87,4 +88,5 @@ demand t fits cs =
       impossible = λ earlier later c is. contradicted t fits earlier (c .entry);
       orderless = λ t′ cs′ fits′ same.
           least-orderless _ _ _ _ same (reached-least _ _ r) (reached-least _ _ (held t′ fits′ cs′ .reached));
+      planner = plan-ends _ _ (h .admissible) least;
     }

@@ -1,17 +1,19 @@
 -- A schedule's board shows the entries, and what a board below it shows, the schedule keeps.
-use mathlib.Core.Path.{_≡_, refl}
+use mathlib.Core.Path.{_≡_, refl, sym}
 use mathlib.Core.Bool.{Bool, true, false, cond}
 use Prim.Native.Nat.{ℕ, _<_}
 use native.Mathlib.Omega.{arith}
 use borrow.Author.Tests.{lt-ltb}
 use Rattle.minutes.specs.Bools.{is-false, refuted}
+use Rattle.minutes.specs.Linear.{whole}
 use Rattle.board.specs.Paper.View.{View, Live, early, late}
 use Rattle.board.specs.Paper.Facts.{Fact, is-arc, is-bound, is-valid, is-invalid, Holds, Known}
-use Rattle.board.specs.Order.Laws.{shown-invalid, valid-up, arc-up}
+use Rattle.board.specs.Order.Laws.{shown-invalid}
 use Rattle.board.specs.Inference.Forced.{valid-live}
 use Rattle.board.specs.Paper.Entries.{Entries, Admissible, Shown, Shows, Drawn, drawn, shown, _⊑_}
-use Rattle.board.specs.Paper.Schedules.{Placing, Placed, end, Respects, Schedule, Keeps}
-use Rattle.board.specs.Schedule.Scheduled.{placedRow, absentRow, scheduled, live-placed, placed-live, arc-read, arc-show}
+use Rattle.board.specs.Paper.Schedules.{Placing, Placed, Respects, Schedule, Keeps}
+use Rattle.board.specs.Schedule.Keeps.{keeps-schedule}
+use Rattle.board.specs.Schedule.Scheduled.{placedRow, absentRow, scheduled, live-placed, arc-read, arc-show}
 
 pub scheduled-shows : (es : Entries) (p : Placing) → Admissible es → Schedule es p → Shows es (scheduled es p)
 scheduled-shows es p ok h =
@@ -48,33 +50,25 @@ scheduled-shows es p ok h =
     fact (is-valid j) l r = (l, rw r)
     fact (is-invalid j) l r = (l, rw (r, lt-ltb j (es .jobs) l))
 
-pub kept : (es : Entries) (p : Placing) (v : View) → v .jobs ≡ es .jobs → Schedule es p → v ⊑ scheduled es p → Keeps v p
-kept es p v same h up =
+-- a schedule keeps what its own board shows
+keeps-own : (es : Entries) (p : Placing) → Schedule es p → Keeps (scheduled es p) p
+keeps-own es p h =
     record {
-      added = added;
-      valid = λ j l m. live-placed es p j (valid-live w j (valid-up v w up j (l, m)));
-      invalid = λ j l m. is-false (p .placed j) λ e. omega (arith, row j e .invalid m);
-      earliest = λ j e. row j e .earliest (omega arith);
-      latest = λ j e. rw (same-end j e) (row j e .latest (omega arith));
+      added = h .added;
+      valid = λ j l m. live-placed es p j (valid-live w j (l, m));
+      invalid = λ j l m. is-false (p .placed j) λ e. omega (arith, rw e at m);
+      earliest = λ j e. rw e (omega whole);
+      latest = λ j e. rw e (omega whole);
       facts = fact;
-      apart = λ i k ei ek ne. rw (same-end i ei, same-end k ek) (h .apart i k ei ek ne);
+      apart = λ i k ei ek ne. rw (ei, ek) (h .apart i k ei ek ne);
     }
   where
     w : View
     w = scheduled es p
 
-    added : (j : ℕ) → Placed p j → j < v .jobs
-    added j e = omega (arith, h .added j e)
+    fact : (f : Fact) → Drawn w f → Respects (shown w) p f
+    fact _ (drawn i k a) = λ ei ek. rw ei (arc-read es p i k a .2)
 
-    row : (j : ℕ) → Placed p j → Shown (v .row j) (placedRow es p j)
-    row j e = rw e at (up .rows j (added j e))
-
-    live : (j : ℕ) → Placed p j → Live w j
-    live j e = placed-live es p j (h .added j e) e
-
-    same-end : (j : ℕ) → Placed p j → end (shown v) p j ≡ end es p j
-    same-end j e = rw (row j e .length (omega arith))
-
-    fact : (f : Fact) → Drawn v f → Respects (shown v) p f
-    fact _ (drawn i k a) = λ ei ek.
-        rw (same-end i ei) (arc-read es p i k (arc-up v w up i k a (live i ei) (live k ek)) .2)
+pub kept : (es : Entries) (p : Placing) (v : View) → v .jobs ≡ es .jobs → Schedule es p → v ⊑ scheduled es p → Keeps v p
+kept es p v same h up =
+    keeps-schedule (shown v) (scheduled es p) (record { count = sym same; atLeast = up }) p (keeps-own es p h)

@@ -1,4 +1,4 @@
--- "Refusals by the gate": the checks of the table in their order, as far as each sort of entry has them.
+-- "Refusals by the gate": the checks of the table in their order, as far as each sort of entry has them, and the planner's.
 use mathlib.Core.Bool.{Bool, true, false, not, _&&_}
 use mathlib.Core.List.{List, [], _∷_}
 use mathlib.Core.Option.{Option, none, some}
@@ -56,6 +56,13 @@ checks n (addition l e d m) =
     ∷ line Refused.Mark (not (between (pos 0) (pos 1) m))
     ∷ []
 checks n (other s) = statementChecks n s
+
+-- 9 budget, "below 0 or above 1000000": the planner's own check
+abbrev pub budgetLimit : ℤ
+budgetLimit = pos 1000000
+
+abbrev pub budgetCheck : ℤ → Check
+budgetCheck z = line Refused.Budget (not (between (pos 0) budgetLimit z))
 
 -- the first refusal that the call meets
 unfoldable pub gate : List Check → Option Refusal

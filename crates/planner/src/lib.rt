@@ -1,0 +1,103 @@
+// "Planner": the tries over the valid jobs in ascending number, on a board that has passed check 0.
+use board::Board;
+use gate::Gate;
+use gate::budget_gate;
+use gate::budget_value;
+use limits::marked::marked;
+use tries::PlanAnswer;
+use tries::Planned;
+ghost use mathlib.Core.Path.{_≡_};
+ghost use mathlib.Core.Bool.{true, _&&_};
+ghost use lib.Dec.{eqb};
+ghost use lib.Signed.{leZ};
+ghost use Rattle.words.specs.Bit.{intersection};
+ghost use Rattle.board.specs.Paper.Limits.{Within};
+ghost use Rattle.board.specs.Paper.View.{view};
+ghost use Rattle.closure.specs.Check.{passes};
+ghost use Rattle.limits.specs.Marked as sets;
+ghost use Rattle.tries.specs.Paper.Planner as paper;
+ghost use Rattle.tries.specs.Paper.Tries as definition;
+
+// An answer without a plan.
+pub fn unplanned(answer: PlanAnswer) -> Planned
+    ensures { λ r. ⌜ r ≡ paper.unplanned answer ⌝ }
+{
+    Planned {
+        answer,
+        placed: 0,
+        starts: [0; Board::JOBS],
+    }
+}
+
+// "A try places the job if every valid job with an arc to it is placed and its end is at most D"
+fn places(before: u64, unplaced: u64, end: i32, latest: i32) -> bool
+    ensures { λ r. ⌜ r ≡ eqb (intersection before unplaced) 0 && leZ end latest ⌝ }
+{
+    words::intersection(before, unplaced) == 0 && end <= latest
+}
+
+// The tries. The jobs placed so far are `jobs` up to `depth`; those of `left` are still to be tried from this list, and the dock is
+// free from minute `free` on. `lefts` and `frees` hold what a placing taken back comes back to.
+fn search(board: Board, valid: u64, budget: u32) -> Planned
+    requires { ⌜ Within board × (valid ≡ sets.marked (board .jobs) (board .marks) 1) ⌝ }
+    ensures { λ r. ⌜ r ≡ paper.answer (view board) budget (definition.tries (view board) (paper.validJobs (view board))) ⌝ }
+{
+    let mut jobs = [0; Board::JOBS];
+    let mut lefts = [0; Board::JOBS];
+    let mut frees = [0; Board::JOBS];
+    let mut starts = [0; Board::JOBS];
+    let mut depth = 0;
+    let mut unplaced = valid;
+    let mut left = valid;
+    let mut free = Board::FIRST_MINUTE;
+    let mut tries = 0;
+    while unplaced != 0 {
+        if left == 0 {
+            if depth == 0 {
+                return unplanned(PlanAnswer::None(tries));
+            }
+            depth -= 1;
+            unplaced = words::with(unplaced, jobs[depth]);
+            left = lefts[depth];
+            free = frees[depth];
+        } else {
+            if tries == budget {
+                return unplanned(PlanAnswer::Spent(budget));
+            }
+            tries += 1;
+            let job = words::lowest(left);
+            left = words::without(left, job);
+            let start = minutes::greater(board.earliest[job], free);
+            let end = minutes::sum(start, board.lengths[job]);
+            if places(board.before[job], unplaced, end, board.latest[job]) {
+                jobs[depth] = job;
+                lefts[depth] = left;
+                frees[depth] = free;
+                starts[job] = start;
+                depth += 1;
+                unplaced = words::without(unplaced, job);
+                left = unplaced;
+                free = end;
+            }
+        }
+    }
+    Planned {
+        answer: PlanAnswer::Found(tries),
+        placed: valid,
+        starts,
+    }
+}
+
+pub fn plan(board: Board, budget: i32) -> Planned
+    requires { ⌜ passes board ≡ true ⌝ }
+    ensures { λ r. ⌜ r ≡ paper.plan board budget ⌝ }
+{
+    match budget_gate(budget) {
+        Gate::Closed(refusal) => unplanned(PlanAnswer::Refused(refusal)),
+        Gate::Open => search(
+            board,
+            marked(board.jobs, &board.marks, Board::VALID),
+            budget_value(budget),
+        ),
+    }
+}

@@ -1,0 +1,15 @@
+-- The planner's tries: as definitions, and that they find a plan exactly where there is a schedule.
+pub mod Paper
+-- Lists of job numbers.
+pub mod ListLaws
+pub mod Unplaced
+-- Outcomes of tries.
+pub mod OutcomeLaws
+-- What is found is a schedule.
+pub mod Reached
+pub mod Sound
+-- Where there is a schedule, a plan is found.
+pub mod Complete
+-- The planner's answer says whether the entries have a schedule.
+pub mod PlanLaws
+pub mod Ends

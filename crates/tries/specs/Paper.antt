@@ -1,0 +1,6 @@
+-- Document 01's planner as definitions: what a reader must believe.
+pub mod Lists
+pub mod Tries
+pub mod Planner
+pub mod Answers
+pub mod Exact

@@ -1,0 +1,77 @@
+-- The lists that tries reach, each job placed by a try, and where the jobs of a list start. What the tries find is such a list
+-- with all jobs placed.
+use mathlib.Core.Path.{_≡_, refl, sym, _∙_}
+use mathlib.Core.Logic.{_≢_}
+use mathlib.Core.Bool.{true, false, cond, _&&_}
+use mathlib.Core.List.{List, [], _∷_}
+use Prim.Native.Nat.{ℕ, zero, suc}
+use native.Mathlib.Decide.{ℕ-discrete}
+use native.Mathlib.Omega.{arith}
+use lib.Dec.{eqb}
+use lib.IntN.{ℤ, pos}
+use lib.ListN.{length}
+use borrow.Author.Tests.{eq-eqb, ne-eqb}
+use Rattle.minutes.specs.Bools.{refuted, and-parts, by-test}
+use Rattle.board.specs.Paper.View.{View}
+use Rattle.tries.specs.Paper.Lists.{among}
+use Rattle.tries.specs.Paper.Tries.{none, startAfter, inTime, ready, unplaced, search}
+use Rattle.tries.specs.ListLaws.{Distinct, among-first, among-rest}
+use Rattle.tries.specs.Unplaced.{unplaced-is, one-placed}
+use Rattle.tries.specs.OutcomeLaws.{IfFound, from-if}
+
+module _ (v : View) where
+  -- the start of k where it was placed, and 0 where it was not
+  unfoldable pub startIn : List ℕ → ℕ → ℤ
+  startIn [] k = pos 0
+  startIn (j ∷ ps) k = cond (eqb j k) (startAfter v ps j) (startIn ps k)
+
+  pub start-first : (j : ℕ) (ps : List ℕ) → startIn (j ∷ ps) j ≡ startAfter v ps j
+  unfolding startIn
+  start-first j ps = rw (eq-eqb j j refl)
+
+  pub start-rest : (j : ℕ) (ps : List ℕ) (k : ℕ) → j ≢ k → startIn (j ∷ ps) k ≡ startIn ps k
+  unfolding startIn
+  start-rest j ps k ne = rw (ne-eqb j k ne)
+
+  pub start-none : (ps : List ℕ) (k : ℕ) → among ps k ≡ false → startIn ps k ≡ pos 0
+  unfolding startIn
+  start-none [] k out = refl
+  start-none (j ∷ ps) k out =
+      let ne : j ≢ k = λ d. refuted out (rw (← d) (among-first j ps)) in
+      start-rest j ps k ne ∙ start-none ps k (sym (among-rest j ps k ne) ∙ out)
+
+  -- what holds of the last job and of those before it holds of each
+  pub last-and-before : (P : ℕ → ℤ → Type 0) (j : ℕ) (ps : List ℕ) → P j (startAfter v ps j)
+      → ((k : ℕ) → among ps k ≡ true → P k (startIn ps k)) → (k : ℕ) → among (j ∷ ps) k ≡ true → P k (startIn (j ∷ ps) k)
+  last-and-before P j ps last before k a = go (ℕ-discrete j k)
+    where
+      go : Dec (j ≡ k) → P k (startIn (j ∷ ps) k)
+      go (yes d) = rw (← d) (rw (start-first j ps) last)
+      go (no ne) = rw (start-rest j ps k ne) (before k (sym (among-rest j ps k ne) ∙ a))
+
+module _ (v : View) (order : List ℕ) where
+  -- the try of j from the list ps places it
+  pub record Places (ps : List ℕ) (j : ℕ) : Type 0 where
+    pub member : among order j ≡ true
+    pub unplaced : among ps j ≡ false
+    pub ready : ready v order ps j ≡ true
+    pub inTime : inTime v ps j ≡ true
+
+  abbrev pub Reached : List ℕ → Type 0
+  Reached [] = Unit {0}
+  Reached (j ∷ ps) = Places ps j × Reached ps
+
+  pub search-reaches : Distinct order → (n : ℕ) (ps : List ℕ) → Reached ps → length (unplaced v order ps) ≡ n
+      → IfFound (λ qs. Reached qs × (length (unplaced v order qs) ≡ 0)) (search v order n ps)
+  unfolding search
+  search-reaches d zero ps r e = (r, e)
+  search-reaches d (suc n) ps r e =
+      from-if v order (search v order n) ps _ (unplaced v order ps) λ j a.
+      let (fresh, member) = unplaced-is v order ps j .yes a in
+      by-test (IfFound _) (ready v order ps j && inTime v ps j) (search v order n (j ∷ ps)) (none 0)
+      (λ h.
+      let (after, fits) = and-parts (ready v order ps j) (inTime v ps j) h in
+      search-reaches d n (j ∷ ps)
+      (record { member = member; unplaced = fresh; ready = after; inTime = fits }, r)
+      (omega (arith, one-placed v order ps d j member fresh)))
+      (λ h. tt)
