@@ -1,0 +1,4 @@
+pub mod Altered
+pub mod Called
+pub mod Looked
+pub mod Numbers
