@@ -1,10 +1,9 @@
 // The paper's whole case, and plans that the tries find, fail to find or have no budget for.
 use crate::call;
-use crate::write;
 use board::Board;
 
 pub fn whole() {
-    write::text(b"case\n");
+    writing::text(b"case\n");
     let b = call::addition(Board::empty(), 30, 0, 100, 1);
     let b = call::addition(b, 40, 0, 100, 0);
     let b = call::addition(b, 20, 10, 60, 1);
@@ -15,14 +14,14 @@ pub fn whole() {
     let b = call::cut(b, 1, 0, 85);
     call::row(b, 1);
     let b = call::mark(b, 1, 1);
-    write::text(b"(tally ");
-    write::natural(b.tally as u64);
-    write::text(b")\n");
+    writing::text(b"(tally ");
+    writing::natural(b.tally as u64);
+    writing::text(b")\n");
 }
 
 // Three jobs of 10 minutes in 25: the board accepts each, and the tries find no plan. With 30 minutes for one they do.
 pub fn plans() {
-    write::text(b"plans\n");
+    writing::text(b"plans\n");
     call::plan(Board::empty(), 0);
     let b = call::addition(Board::empty(), 10, 0, 25, 1);
     let b = call::addition(b, 10, 0, 25, 1);

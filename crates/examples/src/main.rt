@@ -2,7 +2,6 @@
 mod call;
 mod case;
 mod marked;
-mod write;
 
 fn main() {
     marked::lengths();

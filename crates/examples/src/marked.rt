@@ -1,6 +1,5 @@
 // The twelve marked examples of the paper.
 use crate::call;
-use crate::write;
 use board::Board;
 
 const UNDECIDED: i32 = 0;
@@ -9,14 +8,14 @@ const VALID: i32 = 1;
 
 // M1 to M4: lengths at their limits, and a job that does not fit its window.
 pub fn lengths() {
-    write::text(b"M1\n");
+    writing::text(b"M1\n");
     call::addition(Board::empty(), 0, 0, 100, VALID);
-    write::text(b"M2\n");
+    writing::text(b"M2\n");
     call::addition(Board::empty(), 10000, 0, 10000, VALID);
-    write::text(b"M3\n");
+    writing::text(b"M3\n");
     let b = call::addition(Board::empty(), 10000, 0, 9999, UNDECIDED);
     call::row(b, 0);
-    write::text(b"M4\n");
+    writing::text(b"M4\n");
     call::addition(Board::empty(), 10000, 0, 9999, VALID);
 }
 
@@ -32,41 +31,41 @@ fn two_before(length: i32, second: i32, earliest: i32, mark: i32) {
 
 // M5 to M7: the energy of all the jobs before, of some of them, and of the valid ones alone.
 pub fn energy() {
-    write::text(b"M5\n");
+    writing::text(b"M5\n");
     two_before(10, 20, 0, VALID);
-    write::text(b"M6\n");
+    writing::text(b"M6\n");
     two_before(5, 10, 50, VALID);
-    write::text(b"M7\n");
+    writing::text(b"M7\n");
     two_before(5, 10, 50, UNDECIDED);
 }
 
 // M8 and M9: 60 against 60, and against 59.
 pub fn orders() {
-    write::text(b"M8\n");
+    writing::text(b"M8\n");
     let b = call::addition(Board::empty(), 40, 0, 100, VALID);
     call::pair(call::addition(b, 20, 10, 60, VALID), 0, 1);
-    write::text(b"M9\n");
+    writing::text(b"M9\n");
     let b = call::addition(Board::empty(), 40, 0, 100, VALID);
     call::pair(call::addition(b, 20, 10, 59, VALID), 0, 1);
 }
 
 // M10 and M11: arcs through an undecided job, which is then marked valid.
 pub fn joins() {
-    write::text(b"M10\n");
+    writing::text(b"M10\n");
     let b = call::addition(Board::empty(), 5, 0, 100, VALID);
     let b = call::addition(b, 5, 0, 100, UNDECIDED);
     let b = call::addition(b, 5, 0, 100, VALID);
     let b = call::arc(b, 0, 1);
     let b = call::arc(b, 1, 2);
     call::pair(b, 0, 2);
-    write::text(b"M11\n");
+    writing::text(b"M11\n");
     let b = call::mark(b, 1, 1);
     call::pair(b, 0, 2);
 }
 
 // M12: two undecided jobs that exclude each other.
 pub fn exclusion() {
-    write::text(b"M12\n");
+    writing::text(b"M12\n");
     let b = call::addition(Board::empty(), 5, 0, 100, UNDECIDED);
     let b = call::addition(b, 5, 0, 100, UNDECIDED);
     let b = call::arc(b, 0, 1);

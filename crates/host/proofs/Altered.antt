@@ -58,7 +58,7 @@ use Rattle.host.proofs.Numbers.{dropped, unsaid, unasked, Had, had, gon
 use Rattle.host.proofs.Numbers.{locals, past, copies, other, alloc-numbers, pass-numbers, free-numbers, look-numbers}
 
 module _ (n : ℕ) where
-  abbrev by-reference : Ended
+  abbrev pub by-reference : Ended
   by-reference = record {
     signature = record {
       lifetimes = 1;

@@ -110,7 +110,7 @@ module _ (n : ℕ) (R : RattleType) where
         asked : Given 𝓤 H A → IsBoard h → Fit 0 tt n zs → ent 𝓤 (emp 𝓤) (ByValue .pre arguments)
         asked W is fits =
             qed W [] ∵ nothing ! $ nothing ! $
-            use0 W (‵ (owns (rows 0 tt n) zs (given 0 tt n zs))) (own-numbers 𝓤 H A W n zs fits) $
+            use0 W (‵ (owns (rows 0 tt n) zs (given 0 tt n zs))) (own-numbers 𝓤 H A W 0 tt n zs fits) $
             owned ! D.the-row (Is D.the-row) (LL.makes D.the-type D′.the-plain 𝓤 H A) (holding h) _ (is-dock h is) $
             fjoin ! $ move ! (1 ∷ 0 ∷ []) $ join ! $ done !
 

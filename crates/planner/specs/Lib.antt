@@ -4,3 +4,4 @@ pub mod Waiting
 pub mod Loop
 pub mod Moves
 pub mod Results
+pub mod Starts

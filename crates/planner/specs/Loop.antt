@@ -36,12 +36,12 @@ module _ (b : Board) where
     pub time : IsTime free
     pub start : (j : ℕ) → startAfter (view b) ps j ≡ greater (E (view b) j) free
 
-  -- Job j placed after the jobs ps, with those that were still to be tried, the minute from which the dock was free, and its start.
-  pub record Placement (ps : List ℕ) (j left : ℕ) (free start : ℤ) : Type 0 where
+  -- Job j placed after the jobs ps, with those that were still to be tried and the minute from which the dock was free.
+  pub record Placement (ps : List ℕ) (j left : ℕ) (free : ℤ) : Type 0 where
     pub job : Waiting b ps j
     pub untried : (k : ℕ) → bit left k ≡ true → Waiting b ps k
     pub dock : FreeFrom ps free
-    pub starts : start ≡ startAfter (view b) ps j
+    pub ends : inTime (view b) ps j ≡ true
 
   abbrev pub at : List ℕ → ℕ → ℕ
   at l d = getD l d 0
@@ -50,9 +50,14 @@ module _ (b : Board) where
   timeAt l d = getD l d (pos 0)
 
   -- the jobs placed up to a depth
-  abbrev pub Placements : List ℕ → List ℕ → List ℤ → List ℤ → ℕ → Type 0
-  Placements jobs lefts frees starts depth = (d : ℕ) → d < depth
-      → Placement (stack (at jobs) d) (at jobs d) (at lefts d) (timeAt frees d) (timeAt starts (at jobs d))
+  abbrev pub Placements : List ℕ → List ℕ → List ℤ → ℕ → Type 0
+  Placements jobs lefts frees depth = (d : ℕ) → d < depth
+      → Placement (stack (at jobs) d) (at jobs d) (at lefts d) (timeAt frees d)
+
+  -- each job up to a depth is valid and, placed after those before it, ends in time
+  abbrev pub Timely : List ℕ → ℕ → Type 0
+  Timely jobs depth = (d : ℕ) → d < depth
+      → (valid (view b) (at jobs d) ≡ true) × (inTime (view b) (stack (at jobs) d) (at jobs d) ≡ true)
 
   abbrev pub outcome : Outcome
   outcome = tries (view b) (order b)
@@ -64,16 +69,14 @@ module _ (b : Board) where
       here (view b) (order b) (waitingCount b ps) ps left
       orElse back (view b) (order b) (at jobs) (at lefts) (waitingCount b ps) depth
 
-  pub record State (jobs lefts : List ℕ) (frees starts : List ℤ) (depth unplaced left : ℕ) (free : ℤ) (made budget : ℕ) : Type 0 where
+  pub record State (jobs lefts : List ℕ) (frees : List ℤ) (depth unplaced left : ℕ) (free : ℤ) (made budget : ℕ) : Type 0 where
     pub jobs-shape : length jobs ≡ jobLimit
     pub lefts-shape : length lefts ≡ jobLimit
     pub frees-shape : length frees ≡ jobLimit
-    pub starts-shape : length starts ≡ jobLimit
-    pub placements : Placements jobs lefts frees starts depth
+    pub placements : Placements jobs lefts frees depth
     pub waiting : WaitingWord b unplaced (stack (at jobs) depth)
     pub untried : (k : ℕ) → bit left k ≡ true → Waiting b (stack (at jobs) depth) k
     pub dock : FreeFrom (stack (at jobs) depth) free
-    pub others : (k : ℕ) → k < jobLimit → valid (view b) k ≡ false → timeAt starts k ≡ pos 0
     pub affordable : made ≤ budget
     pub counted : depth + waitingCount b (stack (at jobs) depth) ≡ length (order b)
     pub so-far : outcome ≡ add made (rest jobs lefts depth left)

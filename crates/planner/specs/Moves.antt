@@ -3,39 +3,28 @@ use mathlib.Core.Path.{_≡_, refl, sym, ap, _∙_}
 use mathlib.Core.Logic.{_≢_}
 use mathlib.Core.Bool.{true, false, _&&_}
 use mathlib.Core.List.{List, [], _∷_}
-use Prim.Native.Nat.{ℕ, zero, suc, _+_, _<_, _≤_}
+use Prim.Native.Nat.{ℕ, suc, _+_, _<_, _≤_}
 use native.Mathlib.Decide.{ℕ-discrete}
 use native.Mathlib.Omega.{arith}
 use lib.IntN.{ℤ, pos, _+ℤ_}
-use lib.ListN.{length, getD, set, replicate, length-set, getD-replicate}
+use lib.ListN.{length, getD, set, replicate, length-set}
 use lib.Seq.{getD-set-same, getD-set-other}
 use Rattle.words.specs.Bit.{bit, with, without, Lowest, width}
 use Rattle.words.specs.Walk.{without-inside}
-use Rattle.minutes.specs.Bools.{refuted, and-parts}
+use Rattle.minutes.specs.Bools.{and-parts}
 use Rattle.board.specs.declared.Board.{Board}
 use Rattle.board.specs.Paper.View.{view}
 use Rattle.board.specs.Paper.Limits.{Within, firstMinute, jobLimit}
 use Rattle.board.specs.Paper.Rules.{L}
 use Rattle.board.specs.Tests.Decides.{holds, restated, retested}
 use Rattle.board.specs.Tests.Live.{valid}
-use Rattle.tries.specs.Paper.Lists.{among}
 use Rattle.tries.specs.Paper.Tries.{startAfter, inTime, ready, search}
-use Rattle.tries.specs.ListLaws.{none-among, among-first, among-later}
-use Rattle.tries.specs.OutcomeLaws.{add-zero}
+use Rattle.tries.specs.ListLaws.{none-among}
+use Rattle.tries.specs.OutcomeLaws.{add-zero, orElse-none}
 use Rattle.tries.specs.Unplaced.{none-placed}
-use Rattle.planner.specs.Rest.{stack, stack-same, here, back, back-same, search-here, tried-all, not-placed, placed, alone}
+use Rattle.planner.specs.Rest.{stack, stack-same, here, back, back-same, search-here, tried-all, not-placed, placed}
 use Rattle.planner.specs.Waiting.{order, Waiting, WaitingWord, waiting-fits, waiting-members, least-first, no-members, waiting-placed, waiting-back, waitingCount, count-placed, some-waits}
 use Rattle.planner.specs.Loop.{free-at-first, free-after, Placement, at, timeAt, Placements, outcome, State}
-
--- a job of the stack is among its jobs
-among-stack : (f : ℕ → ℕ) (depth d : ℕ) → d < depth → among (stack f depth) (f d) ≡ true
-unfolding stack
-among-stack f zero d l = absurd (omega arith)
-among-stack f (suc n) d l = go (ℕ-discrete d n) λ ne. among-stack f n d (omega arith)
-  where
-    go : Dec (d ≡ n) → (d ≢ n → among (stack f n) (f d) ≡ true) → among (f n ∷ stack f n) (f d) ≡ true
-    go (yes e) rec = rw e (among-first (f n) (stack f n))
-    go (no ne) rec = among-later (f n) (stack f n) (f d) (rec ne)
 
 module _ (b : Board) (h : Within b) where
   -- at the start no job is placed
@@ -44,7 +33,7 @@ module _ (b : Board) (h : Within b) where
     all-wait k = retested (valid-word k) (restated (holds (valid (view b) k)) (λ e. (e, none-among k)) (λ p. p .0))
 
     pub at-start : (budget : ℕ)
-        → State b (replicate jobLimit 0) (replicate jobLimit 0) (replicate jobLimit (pos 0)) (replicate jobLimit (pos 0)) 0 w w firstMinute 0 budget
+        → State b (replicate jobLimit 0) (replicate jobLimit 0) (replicate jobLimit (pos 0)) 0 w w firstMinute 0 budget
     unfolding stack back
     at-start budget =
         let v = view b in
@@ -56,22 +45,20 @@ module _ (b : Board) (h : Within b) where
           jobs-shape = refl;
           lefts-shape = refl;
           frees-shape = refl;
-          starts-shape = refl;
           placements = λ d l. absurd (omega arith);
           waiting = all-wait;
           untried = λ k. all-wait k .yes;
           dock = free-at-first b h;
-          others = λ k l e. getD-replicate jobLimit k (pos 0) (pos 0) l;
           affordable = omega arith;
           counted = omega (arith, count);
-          so-far = ap (λ (n : ℕ). search v o n []) count ∙ begun ∙ sym (alone v o _) ∙ sym (add-zero _);
+          so-far = ap (λ (n : ℕ). search v o n []) count ∙ begun ∙ sym (orElse-none _) ∙ sym (add-zero _);
         }
 
-  module _ (jobs lefts : List ℕ) (frees starts : List ℤ) (depth w left : ℕ) (free : ℤ) (t budget : ℕ)
-      (s : State b jobs lefts frees starts depth w left free t budget) (waits : w ≢ 0) where
+  module _ (jobs lefts : List ℕ) (frees : List ℤ) (depth w left : ℕ) (free : ℤ) (t budget : ℕ)
+      (s : State b jobs lefts frees depth w left free t budget) (waits : w ≢ 0) where
     -- a placing is taken back
     pub taken-back : left ≡ 0 → (d : ℕ) → depth ≡ suc d
-        → State b jobs lefts frees starts d (with w (at b jobs d)) (at b lefts d) (timeAt b frees d) t budget
+        → State b jobs lefts frees d (with w (at b jobs d)) (at b lefts d) (timeAt b frees d) t budget
     unfolding stack back
     taken-back none-left d e =
         let v = view b in
@@ -84,12 +71,10 @@ module _ (b : Board) (h : Within b) where
           jobs-shape = s .jobs-shape;
           lefts-shape = s .lefts-shape;
           frees-shape = s .frees-shape;
-          starts-shape = s .starts-shape;
           placements = λ i l. s′ .placements i (omega arith);
           waiting = waiting-back b w (at b jobs d) (stack (at b jobs) d) (s′ .waiting) (last .job);
           untried = last .untried;
           dock = last .dock;
-          others = s .others;
           affordable = s .affordable;
           counted = omega (arith, s′ .counted, count-placed b (at b jobs d) (stack (at b jobs) d) (last .job));
           so-far = rw (← count-placed b (at b jobs d) (stack (at b jobs) d) (last .job), count) now;
@@ -105,7 +90,7 @@ module _ (b : Board) (h : Within b) where
 
       -- it places no job
       pub tried-in-vain : (ready (view b) (order b) (stack (at b jobs) depth) j && inTime (view b) (stack (at b jobs) depth) j) ≡ false
-          → State b jobs lefts frees starts depth w (without width left j) free (t + 1) budget
+          → State b jobs lefts frees depth w (without width left j) free (t + 1) budget
       tried-in-vain fails =
           let v = view b in
           let o = order b in
@@ -117,21 +102,18 @@ module _ (b : Board) (h : Within b) where
             jobs-shape = s .jobs-shape;
             lefts-shape = s .lefts-shape;
             frees-shape = s .frees-shape;
-            starts-shape = s .starts-shape;
             placements = s .placements;
             waiting = s .waiting;
             untried = later;
             dock = s .dock;
-            others = s .others;
             affordable = omega (arith, affords);
             counted = s .counted;
             so-far = rw count now;
           }
 
       -- it places job j
-      module _ (start finish : ℤ)
-          (start-is : start ≡ startAfter (view b) (stack (at b jobs) depth) j)
-          (finish-is : finish ≡ start +ℤ L (view b) j)
+      module _ (finish : ℤ)
+          (finish-is : finish ≡ startAfter (view b) (stack (at b jobs) depth) j +ℤ L (view b) j)
           (room : depth < jobLimit)
           (places : (ready (view b) (order b) (stack (at b jobs) depth) j && inTime (view b) (stack (at b jobs) depth) j) ≡ true) where
         abbrev jobs′ : List ℕ
@@ -157,15 +139,15 @@ module _ (b : Board) (h : Within b) where
         unfolding stack
         longer = rw (last-job, same-stack depth (omega arith))
 
-        in-width : j < jobLimit
-        in-width = low .width
+        in-time : inTime (view b) (stack (at b jobs) depth) j ≡ true
+        in-time = and-parts (ready (view b) (order b) (stack (at b jobs) depth) j) (inTime (view b) (stack (at b jobs) depth) j) places .1
 
-        stored : Placements b jobs′ lefts′ (set frees depth free) (set starts j start) (suc depth)
+        stored : Placements b jobs′ lefts′ (set frees depth free) (suc depth)
         stored d less = go (ℕ-discrete d depth)
           where
             go : Dec (d ≡ depth)
                 → Placement b (stack (at b jobs′) d) (at b jobs′ d) (at b lefts′ d)
-                (timeAt b (set frees depth free) d) (timeAt b (set starts j start) (at b jobs′ d))
+                (timeAt b (set frees depth free) d)
             go (yes e) =
                 rw (
                   e,
@@ -173,22 +155,19 @@ module _ (b : Board) (h : Within b) where
                   last-left,
                   same-stack depth (omega arith),
                   getD-set-same frees depth free (pos 0) (omega (arith, room, s .frees-shape)),
-                  getD-set-same starts j start (pos 0) (omega (arith, in-width, s .starts-shape)),
                 )
-                (record { job = due; untried = later; dock = s .dock; starts = start-is })
+                (record { job = due; untried = later; dock = s .dock; ends = in-time })
             go (no ne) =
                 let before : d < depth = omega arith in
-                let differs : at b jobs d ≢ j = λ e. refuted (due .1) (rw (← e) (among-stack (at b jobs) depth d before)) in
                 rw (
                   earlier jobs j 0 d before,
                   earlier lefts (without width left j) 0 d before,
                   earlier frees free (pos 0) d before,
                   same-stack d (omega arith),
-                  getD-set-other starts j (at b jobs d) start (pos 0) differs,
                 )
                 (s .placements d before)
 
-        pub job-placed : State b jobs′ lefts′ (set frees depth free) (set starts j start) (depth + 1) (without width w j) (without width w j) finish (t + 1) budget
+        pub job-placed : State b jobs′ lefts′ (set frees depth free) (depth + 1) (without width w j) (without width w j) finish (t + 1) budget
         unfolding back
         job-placed =
             let v = view b in
@@ -200,19 +179,17 @@ module _ (b : Board) (h : Within b) where
             (least-first b h left j ps (s .untried) low) places in
             let wait : WaitingWord b w′ (j ∷ ps) = waiting-placed b h w j ps (s .waiting) due in
             let counted : waitingCount b (j ∷ ps) ≡ n = omega (arith, count-placed b j ps due, count) in
-            let dock = free-after b h j ps free (s .dock) (and-parts (ready v o ps j) (inTime v ps j) places .1) in
+            let dock = free-after b h j ps free (s .dock) in-time in
             let deeper : depth + 1 ≡ suc depth = omega arith in
             rw deeper
             record {
               jobs-shape = length-set jobs depth j ∙ s .jobs-shape;
               lefts-shape = length-set lefts depth _ ∙ s .lefts-shape;
               frees-shape = length-set frees depth free ∙ s .frees-shape;
-              starts-shape = length-set starts j start ∙ s .starts-shape;
               placements = stored;
               waiting = rw longer wait;
               untried = λ k m. rw longer (wait k .yes m);
-              dock = rw (longer, finish-is, start-is) dock;
-              others = λ k less e. getD-set-other starts j k start (pos 0) (λ q. refuted e (rw q (due .0))) ∙ s .others k less e;
+              dock = rw (longer, finish-is) dock;
               affordable = omega (arith, affords);
               counted = rw longer (omega (arith, s .counted, count-placed b j ps due));
               so-far =

@@ -21,15 +21,15 @@ unfolding stack
 stack-same f g zero h = refl
 stack-same f g (suc d) h = rw (h d (omega arith), stack-same f g d λ i l. h i (omega arith))
 
-module _ (v : View) (order : List ℕ) where
-  -- the members of a set, in ascending number
-  abbrev pub members : ℕ → List ℕ
-  members w = keep (bit w) (range 0 (v .jobs))
+-- the members of a set, in ascending number
+abbrev pub members : View → ℕ → List ℕ
+members v w = keep (bit w) (range 0 (v .jobs))
 
+module _ (v : View) (order : List ℕ) where
   -- the tries from the list ps where n jobs are not placed and those of `left` are still to be tried
   unfoldable pub here : ℕ → List ℕ → ℕ → Outcome
   here zero ps left = found 0 ps
-  here (suc n) ps left = from v order (search v order n) ps (members left)
+  here (suc n) ps left = from v order (search v order n) ps (members v left)
 
   -- the tries once the last placing is taken back, and then those before it
   unfoldable pub back : (ℕ → ℕ) → (ℕ → ℕ) → ℕ → ℕ → Outcome
@@ -47,7 +47,7 @@ module _ (v : View) (order : List ℕ) where
         back-same f f′ g g′ (suc n) d (λ i b. h i (omega arith)) λ i b. l i (omega arith),
       )
 
-  pub search-here : (n : ℕ) (ps : List ℕ) (left : ℕ) → members left ≡ unplaced v order ps → search v order n ps ≡ here n ps left
+  pub search-here : (n : ℕ) (ps : List ℕ) (left : ℕ) → members v left ≡ unplaced v order ps → search v order n ps ≡ here n ps left
   unfolding search here
   search-here zero ps left e = refl
   search-here (suc n) ps left e = rw e
@@ -56,11 +56,11 @@ module _ (v : View) (order : List ℕ) where
   module _ (whole : Outcome) (t n : ℕ) (ps : List ℕ) (left : ℕ) (later : Outcome)
       (so-far : whole ≡ add t (here (suc n) ps left orElse later)) where
     -- nothing is left to be tried from this list
-    pub tried-all : members left ≡ [] → whole ≡ add t later
+    pub tried-all : members v left ≡ [] → whole ≡ add t later
     unfolding here from _orElse_
     tried-all e = so-far ∙ ap (add t) (rw e (add-zero later))
 
-    module _ (j left′ : ℕ) (next : members left ≡ j ∷ members left′) where
+    module _ (j left′ : ℕ) (next : members v left ≡ j ∷ members v left′) where
       -- a try is due
       pub try-due : whole ≡ add (t + 1) (try v order (search v order n) ps j orElse here (suc n) ps left′ orElse later)
       unfolding here from
@@ -84,9 +84,3 @@ module _ (v : View) (order : List ℕ) where
       → whole ≡ add t (here 0 ps left orElse later) → whole ≡ found t ps
   unfolding here _orElse_ add
   all-found whole t ps left later e = e ∙ ap (λ (n : ℕ). found n ps) (omega arith)
-
-  -- at the start, and where the empty list is exhausted
-  pub alone : (o : Outcome) → o orElse none 0 ≡ o
-  unfolding _orElse_ add
-  alone (found t ps) = refl
-  alone (none t) = ap none (omega arith)

@@ -1,14 +1,13 @@
 -- How the planner's loop ends: the empty list is exhausted, a try beyond the budget is due, or all valid jobs are placed. Each time
 -- the answer is the one that the tries give.
-use mathlib.Core.Path.{_≡_, refl, sym, ap, _∙_}
+use mathlib.Core.Path.{_≡_, sym, ap, _∙_}
 use mathlib.Core.Logic.{_≢_}
-use mathlib.Core.Bool.{Bool, true, false}
+use mathlib.Core.Bool.{true}
 use mathlib.Core.List.{List, []}
 use Prim.Native.Nat.{ℕ, zero, suc, _+_, _<_, _≤_}
 use native.Mathlib.Omega.{arith}
-use lib.IntN.{ℤ, pos}
+use lib.IntN.{ℤ}
 use lib.ListN.{length}
-use lib.Seq.{ext-getD}
 use borrow.Author.Tests.{le-leb, lt-leb}
 use lib.Count.{trailingZeros}
 use Rattle.words.specs.Bit.{bit, without, width}
@@ -18,17 +17,17 @@ use Rattle.minutes.specs.Bools.{is-true, refuted, same-tests}
 use Rattle.board.specs.declared.Board.{Board}
 use Rattle.board.specs.Paper.View.{View, view}
 use Rattle.board.specs.Paper.Limits.{Within, jobLimit}
-use Rattle.board.specs.Tests.Live.{valid, valid-yes}
+use Rattle.board.specs.Tests.Live.{valid}
 use Rattle.tries.specs.declared.PlanAnswer.the-variants as Answers
 use Rattle.tries.specs.Paper.Lists.{among, range}
 use Rattle.tries.specs.Paper.Tries.{Outcome, found, none, add}
 use Rattle.tries.specs.Paper.Planner.{placedWord, startList, unplanned, withPlan, answer}
 use Rattle.tries.specs.ListLaws.{none-among, kept-at-most, range-length}
-use Rattle.tries.specs.PlanLaws.{placed-bit, starts-length, start-read}
-use Rattle.tries.specs.Reached.{startIn, start-none, last-and-before}
+use Rattle.tries.specs.PlanLaws.{placed-bit}
+use Rattle.tries.specs.Reached.{last-and-before}
 use Rattle.planner.specs.Rest.{stack, members, back, tried-all, try-due, all-found}
 use Rattle.planner.specs.Waiting.{order, waiting-fits, waitingCount, waiting-members, no-members, some-waits, least-first}
-use Rattle.planner.specs.Loop.{at, timeAt, Placements, outcome, State}
+use Rattle.planner.specs.Loop.{at, Placements, outcome, State}
 
 -- the answer with a budget that is enough, and with one that is not
 module _ (v : View) (budget t : ℕ) where
@@ -43,21 +42,19 @@ unfolding add
 beyond-budget v budget (found u ps) = rw (lt-leb (budget + 1 + u) budget (omega arith))
 beyond-budget v budget (none u) = rw (lt-leb (budget + 1 + u) budget (omega arith))
 
--- the jobs of the stack are valid, and their starts are stored
-stacked : (b : Board) (jobs lefts : List ℕ) (frees starts : List ℤ) (depth : ℕ) → Placements b jobs lefts frees starts depth
-    → (k : ℕ) → among (stack (at b jobs) depth) k ≡ true
-    → (valid (view b) k ≡ true) × (timeAt b starts k ≡ startIn (view b) (stack (at b jobs) depth) k)
+-- the jobs of the stack are valid
+stacked : (b : Board) (jobs lefts : List ℕ) (frees : List ℤ) (depth : ℕ) → Placements b jobs lefts frees depth
+    → (k : ℕ) → among (stack (at b jobs) depth) k ≡ true → valid (view b) k ≡ true
 unfolding stack
-stacked b jobs lefts frees starts zero p k a = absurd (refuted (none-among k) a)
-stacked b jobs lefts frees starts (suc d) p k a =
-    let last = p d (omega arith) in
-    last-and-before (view b) (λ i z. (valid (view b) i ≡ true) × (timeAt b starts i ≡ z)) (at b jobs d) (stack (at b jobs) d)
-    (last .job .0, last .starts)
-    (stacked b jobs lefts frees starts d λ i l. p i (omega arith))
+stacked b jobs lefts frees zero p k a = absurd (refuted (none-among k) a)
+stacked b jobs lefts frees (suc d) p k a =
+    last-and-before (view b) (λ i z. valid (view b) i ≡ true) (at b jobs d) (stack (at b jobs) d)
+    (p d (omega arith) .job .0)
+    (stacked b jobs lefts frees d λ i l. p i (omega arith))
     k a
 
-module _ (b : Board) (h : Within b) (jobs lefts : List ℕ) (frees starts : List ℤ) (depth w left : ℕ) (free : ℤ) (t budget : ℕ)
-    (s : State b jobs lefts frees starts depth w left free t budget) where
+module _ (b : Board) (h : Within b) (jobs lefts : List ℕ) (frees : List ℤ) (depth w left : ℕ) (free : ℤ) (t budget : ℕ)
+    (s : State b jobs lefts frees depth w left free t budget) where
   -- no more jobs are placed than the board has places
   pub deep : depth + waitingCount b (stack (at b jobs) depth) ≤ jobLimit
   deep = omega (arith, s .counted, kept-at-most (valid (view b)) (range 0 (b .jobs)), range-length 0 (b .jobs), h .limits .jobs)
@@ -88,28 +85,14 @@ module _ (b : Board) (h : Within b) (jobs lefts : List ℕ) (frees starts : List
     -- the jobs placed are the valid ones
     placed-valid : (k : ℕ) → among (stack (at b jobs) depth) k ≡ valid (view b) k
     placed-valid k =
-        same-tests _ _ (λ a. stacked b jobs lefts frees starts depth (s .placements) k a .0) λ e.
+        same-tests _ _ (stacked b jobs lefts frees depth (s .placements) k) λ e.
         is-true _ λ out. refuted (bit-zero k) (rw empty at (s .waiting k .show (e, out)))
 
-    small : (k : ℕ) → among (stack (at b jobs) depth) k ≡ true → k < jobLimit
-    small k a = omega (arith, valid-yes (view b) k (sym (placed-valid k) ∙ a) .0, h .limits .jobs)
-
-    starts-are : starts ≡ startList (view b) (stack (at b jobs) depth)
-    starts-are =
-        let ps = stack (at b jobs) depth in
-        ext-getD (pos 0) starts (startList (view b) ps) (s .starts-shape ∙ sym (starts-length (view b) ps)) λ k l.
-        start-at k (omega (arith, l, s .starts-shape)) (among ps k) refl ∙ sym (start-read (view b) ps small k)
-      where
-        start-at : (k : ℕ) → k < jobLimit → (t : Bool) → among (stack (at b jobs) depth) k ≡ t
-            → timeAt b starts k ≡ startIn (view b) (stack (at b jobs) depth) k
-        start-at k l true a = stacked b jobs lefts frees starts depth (s .placements) k a .1
-        start-at k l false a = s .others k l (sym (placed-valid k) ∙ a) ∙ sym (start-none (view b) _ k a)
-
     pub all-are-placed : (valids : ℕ) → ((k : ℕ) → bit valids k ≡ valid (view b) k)
-        → record { answer = Answers.Found t; placed = valids; starts = starts } ≡ answer (view b) budget (outcome b)
+        → record { answer = Answers.Found t; placed = valids; starts = startList (view b) (stack (at b jobs) depth) } ≡ answer (view b) budget (outcome b)
     all-are-placed valids valid-word =
         let ps = stack (at b jobs) depth in
-        let none-waits : waitingCount b ps ≡ 0 = ap length (sym (waiting-members b w ps (s .waiting)) ∙ ap (members (view b) (order b)) empty ∙ no-members b) in
+        let none-waits : waitingCount b ps ≡ 0 = ap length (sym (waiting-members b w ps (s .waiting)) ∙ ap (members (view b)) empty ∙ no-members b) in
         let whole = all-found (view b) (order b) (outcome b) t ps left _ (rw none-waits at (s .so-far)) in
         let word : valids ≡ placedWord ps = bit-ext valids (placedWord ps) λ k. valid-word k ∙ sym (placed-valid k) ∙ sym (placed-bit ps k) in
-        rw (whole, word, starts-are) (sym (found-in-budget (view b) budget t ps (s .affordable)))
+        rw (whole, word) (sym (found-in-budget (view b) budget t ps (s .affordable)))

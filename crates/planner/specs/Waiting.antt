@@ -43,13 +43,13 @@ module _ (b : Board) where
   abbrev pub WaitingWord : ℕ → List ℕ → Type 0
   WaitingWord w ps = (k : ℕ) → Decides (bit w k) (Waiting ps k)
 
-  pub waiting-members : (w : ℕ) (ps : List ℕ) → WaitingWord w ps → members (view b) order w ≡ unplaced (view b) order ps
+  pub waiting-members : (w : ℕ) (ps : List ℕ) → WaitingWord w ps → members (view b) w ≡ unplaced (view b) order ps
   waiting-members w ps is =
       keep-same (bit w) _ (range 0 (b .jobs)) (λ k a.
       same-decision (is k) (holds (valid (view b) k) and restated (negated (holds (among ps k))) (is-false _) (λ e. refuted e)))
       ∙ sym (keep-keep (λ k. not (among ps k)) (valid (view b)) (range 0 (b .jobs)))
 
-  pub no-members : members (view b) order 0 ≡ []
+  pub no-members : members (view b) 0 ≡ []
   no-members = none-kept (bit 0) (range 0 (b .jobs)) bit-zero
 
   -- a job taken back
@@ -93,7 +93,7 @@ module _ (b : Board) where
 
     -- the members of a set after its least one are the members without it
     pub least-first : (w j : ℕ) (ps : List ℕ) → ((k : ℕ) → bit w k ≡ true → Waiting ps k) → Lowest width w j
-        → members (view b) order w ≡ j ∷ members (view b) order (without width w j)
+        → members (view b) w ≡ j ∷ members (view b) (without width w j)
     least-first w j ps inside low =
         let fits = waiting-fits w ps inside in
         lowest-first (bit w) (b .jobs) j

@@ -8,15 +8,18 @@ use tries::PlanAnswer;
 use tries::Planned;
 ghost use mathlib.Core.Path.{_≡_};
 ghost use mathlib.Core.Bool.{true, _&&_};
+ghost use Prim.Native.Nat.{_≤_};
 ghost use lib.Dec.{eqb};
 ghost use lib.Signed.{leZ};
 ghost use Rattle.words.specs.Bit.{intersection};
-ghost use Rattle.board.specs.Paper.Limits.{Within};
+ghost use Rattle.board.specs.Paper.Limits.{Within, jobLimit};
 ghost use Rattle.board.specs.Paper.View.{view};
 ghost use Rattle.closure.specs.Check.{passes};
 ghost use Rattle.limits.specs.Marked as sets;
 ghost use Rattle.tries.specs.Paper.Planner as paper;
 ghost use Rattle.tries.specs.Paper.Tries as definition;
+ghost use Rattle.planner.specs.Rest.{stack};
+ghost use Rattle.planner.specs.Loop.{at, Timely};
 
 // An answer without a plan.
 pub fn unplanned(answer: PlanAnswer) -> Planned
@@ -36,6 +39,35 @@ fn places(before: u64, unplaced: u64, end: i32, latest: i32) -> bool
     words::intersection(before, unplaced) == 0 && end <= latest
 }
 
+// The starts of the first `count` jobs, placed in their order: "the later of E and the end of the job placed before, or E where none
+// is". Before any job the dock counts as free from the first minute on.
+fn starts(board: Board, jobs: [usize; Board::JOBS], count: usize) -> [i32; Board::JOBS]
+    requires { ⌜ Within board × (count ≤ jobLimit) × Timely board jobs count ⌝ }
+    ensures { λ r. ⌜ r ≡ paper.startList (view board) (stack (at board jobs) count) ⌝ }
+{
+    let mut starts = [0; Board::JOBS];
+    let mut free = Board::FIRST_MINUTE;
+    for k in 0..count {
+        let job = jobs[k];
+        let start = minutes::greater(board.earliest[job], free);
+        starts[job] = start;
+        free = minutes::sum(start, board.lengths[job]);
+    }
+    starts
+}
+
+// The answer where all valid jobs are placed.
+fn found(board: Board, jobs: [usize; Board::JOBS], count: usize, valid: u64, tries: u32) -> Planned
+    requires { ⌜ Within board × (count ≤ jobLimit) × Timely board jobs count ⌝ }
+    ensures { λ r. ⌜ r ≡ record { answer = PlanAnswer.Found tries; placed = valid; starts = paper.startList (view board) (stack (at board jobs) count) } ⌝ }
+{
+    Planned {
+        answer: PlanAnswer::Found(tries),
+        placed: valid,
+        starts: starts(board, jobs, count),
+    }
+}
+
 // The tries. The jobs placed so far are `jobs` up to `depth`; those of `left` are still to be tried from this list, and the dock is
 // free from minute `free` on. `lefts` and `frees` hold what a placing taken back comes back to.
 fn search(board: Board, valid: u64, budget: u32) -> Planned
@@ -45,7 +77,6 @@ fn search(board: Board, valid: u64, budget: u32) -> Planned
     let mut jobs = [0; Board::JOBS];
     let mut lefts = [0; Board::JOBS];
     let mut frees = [0; Board::JOBS];
-    let mut starts = [0; Board::JOBS];
     let mut depth = 0;
     let mut unplaced = valid;
     let mut left = valid;
@@ -73,7 +104,6 @@ fn search(board: Board, valid: u64, budget: u32) -> Planned
                 jobs[depth] = job;
                 lefts[depth] = left;
                 frees[depth] = free;
-                starts[job] = start;
                 depth += 1;
                 unplaced = words::without(unplaced, job);
                 left = unplaced;
@@ -81,11 +111,7 @@ fn search(board: Board, valid: u64, budget: u32) -> Planned
             }
         }
     }
-    Planned {
-        answer: PlanAnswer::Found(tries),
-        placed: valid,
-        starts,
-    }
+    found(board, jobs, depth, valid, tries)
 }
 
 pub fn plan(board: Board, budget: i32) -> Planned

@@ -213,6 +213,10 @@ plans =
     ∷ enters (job 10 0 100) ∷ enters (job 5 30 100) ∷ planFinds 2 2 ((1, pos 0) ∷ (2, pos 30) ∷ []) ∷ planSpends 1 ∷ planSpends 0
     ∷ planRefuses 9 (negsuc 0) ∷ planRefuses 9 (pos 1000001) ∷ planFinds 1000000 2 ((1, pos 0) ∷ (2, pos 30) ∷ []) ∷ []
 
+-- "or E where none is": in M6 the second job waits for its E, and the third for the second
+abbrev pub planM6 : List Line
+planM6 = M6 ++ planFinds 100 3 ((0, pos 0) ∷ (1, pos 50) ∷ (2, pos 60) ∷ []) ∷ []
+
 -- "every valid job with an arc to it is placed": job 0 is tried in vain, and then job 1 and job 0 are placed
 abbrev pub planReady : List Line
 planReady = enters (job 10 0 100) ∷ enters (job 10 0 15) ∷ pairIs 0 1 2 ∷ planFinds 3 3 ((0, pos 10) ∷ (1, pos 0) ∷ []) ∷ planSpends 2 ∷ []
@@ -223,7 +227,7 @@ planNone =
     enters (job 10 0 25) ∷ enters (job 10 0 25) ∷ enters (job 10 0 25) ∷ planFails 15 15 ∷ planFails 1000000 15 ∷ planSpends 14 ∷ []
 
 abbrev pub table : List (List Line)
-table = M1 ∷ M2 ∷ M3 ∷ M4 ∷ M5 ∷ M6 ∷ M7 ∷ M8 ∷ M9 ∷ M10 ∷ M11 ∷ M12 ∷ wholeCase ∷ cutsAndMarks ∷ plans ∷ planReady ∷ planNone ∷ []
+table = M1 ∷ M2 ∷ M3 ∷ M4 ∷ M5 ∷ M6 ∷ M7 ∷ M8 ∷ M9 ∷ M10 ∷ M11 ∷ M12 ∷ wholeCase ∷ cutsAndMarks ∷ plans ∷ planM6 ∷ planReady ∷ planNone ∷ []
 
 -- every line of every example is true
 pub examples-hold : all-true table ≡ true

@@ -11,7 +11,7 @@ use borrow.Author.Tests.{leb-true, leb-false}
 use Rattle.minutes.specs.Bools.{refuted, by-test}
 use Rattle.board.specs.declared.Board.{Board}
 use Rattle.board.specs.Paper.View.{view}
-use Rattle.board.specs.Paper.Entries.{Entries, Admissible}
+use Rattle.board.specs.Paper.Entries.{Entries, Admissible, shown}
 use Rattle.board.specs.Paper.Limits.{Limited, jobLimit}
 use Rattle.board.specs.Paper.Closed.{Least}
 use Rattle.board.specs.Paper.Schedules.{Placing, Schedule}
@@ -22,7 +22,8 @@ use Rattle.board.specs.Tests.Limits.{between}
 use Rattle.board.specs.Tests.LimitsDecided.{decides-between}
 use Rattle.board.specs.Tests.Live.{valid-yes}
 use Rattle.closure.specs.Check.{passes}
-use Rattle.closure.specs.Checked.{obeys-passes}
+use Rattle.closure.specs.Checked.{passes-within, passes-least, obeys-passes}
+use Rattle.entries.specs.HandedIn.{admissible-shown}
 use Rattle.entries.specs.Paper.Entry.{number}
 use Rattle.entries.specs.Paper.Gate.{budgetLimit}
 use Rattle.tries.specs.declared.PlanAnswer.the-variants as Answers
@@ -76,3 +77,7 @@ plan-ends es b ok least z = go (between (pos 0) budgetLimit z) refl
         rw (plan-tries b z handed-in e)
         (ends es b least ok z (decides-between (pos 0) budgetLimit z .yes e) (tries (view b) (validJobs (view b))) refl)
     go false e = rw (plan-refused b z handed-in e) (refuses λ h. refuted e (decides-between (pos 0) budgetLimit z .show h))
+
+-- of a board handed in, the entries are those that it shows
+pub handed-ends : (b : Board) → passes b ≡ true → (z : ℤ) → PlanEnds (shown (view b)) (triesTaken (view b)) z (planReplyOf (plan b z))
+handed-ends b p = plan-ends (shown (view b)) b (admissible-shown b (passes-within b p)) (passes-least b p)

@@ -9,7 +9,6 @@ use Rattle.minutes.specs.Bools.{refuted}
 use Rattle.board.specs.Paper.View.{View}
 use Rattle.tries.specs.Paper.Lists.{among}
 use Rattle.tries.specs.Paper.Tries.{Outcome, found, none, add, _orElse_, try, from}
-use Rattle.tries.specs.Paper.Exact.{taken}
 use Rattle.tries.specs.ListLaws.{none-among, among-first, among-rest, among-later}
 
 -- ---- tries add up
@@ -34,10 +33,10 @@ unfolding _orElse_
 orElse-assoc (found u ps) b c = refl
 orElse-assoc (none u) b c = sym (add-orElse u b c)
 
-pub taken-add : (t : ℕ) (o : Outcome) → taken (add t o) ≡ t + taken o
-unfolding add
-taken-add t (found u ps) = refl
-taken-add t (none u) = refl
+pub orElse-none : (o : Outcome) → o orElse none 0 ≡ o
+unfolding add _orElse_
+orElse-none (found t ps) = refl
+orElse-none (none t) = ap none (omega arith)
 
 -- ---- what is found
 

@@ -58,7 +58,7 @@ placed-bit [] k = bit-zero k
 placed-bit (j ∷ ps) k = bit-with (placedWord ps) j k ∙ rw (placed-bit ps k) (or-comm (among ps k) (eqb j k))
 
 module _ (v : View) where
-  pub starts-length : (ps : List ℕ) → length (startList v ps) ≡ jobLimit
+  starts-length : (ps : List ℕ) → length (startList v ps) ≡ jobLimit
   unfolding startList
   starts-length [] = length-replicate jobLimit (pos 0)
   starts-length (j ∷ ps) = length-set (startList v ps) j (startAfter v ps j) ∙ starts-length ps

@@ -11,11 +11,11 @@ use lib.Dec.{eqb}
 use lib.IntN.{ℤ, pos}
 use lib.ListN.{length}
 use borrow.Author.Tests.{eq-eqb, ne-eqb}
-use Rattle.minutes.specs.Bools.{refuted, and-parts, by-test}
+use Rattle.minutes.specs.Bools.{and-parts, by-test}
 use Rattle.board.specs.Paper.View.{View}
 use Rattle.tries.specs.Paper.Lists.{among}
 use Rattle.tries.specs.Paper.Tries.{none, startAfter, inTime, ready, unplaced, search}
-use Rattle.tries.specs.ListLaws.{Distinct, among-first, among-rest}
+use Rattle.tries.specs.ListLaws.{Distinct, among-rest}
 use Rattle.tries.specs.Unplaced.{unplaced-is, one-placed}
 use Rattle.tries.specs.OutcomeLaws.{IfFound, from-if}
 
@@ -32,13 +32,6 @@ module _ (v : View) where
   pub start-rest : (j : ℕ) (ps : List ℕ) (k : ℕ) → j ≢ k → startIn (j ∷ ps) k ≡ startIn ps k
   unfolding startIn
   start-rest j ps k ne = rw (ne-eqb j k ne)
-
-  pub start-none : (ps : List ℕ) (k : ℕ) → among ps k ≡ false → startIn ps k ≡ pos 0
-  unfolding startIn
-  start-none [] k out = refl
-  start-none (j ∷ ps) k out =
-      let ne : j ≢ k = λ d. refuted out (rw (← d) (among-first j ps)) in
-      start-rest j ps k ne ∙ start-none ps k (sym (among-rest j ps k ne) ∙ out)
 
   -- what holds of the last job and of those before it holds of each
   pub last-and-before : (P : ℕ → ℤ → Type 0) (j : ℕ) (ps : List ℕ) → P j (startAfter v ps j)

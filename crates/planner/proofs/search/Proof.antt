@@ -19,42 +19,42 @@ use Rattle.board.specs.Tests.Ranges.{ranges, time-moderate, length-moderate}
 use Rattle.energy.specs.Exact.{lengths-within}
 use Rattle.energy.specs.Laws.{time-fits, length-fits}
 use Rattle.limits.specs.Marked.{bit-valid}
-use Rattle.tries.specs.Paper.Tries.{ready, inTime}
+use Rattle.tries.specs.Paper.Tries.{startAfter, ready, inTime}
 use Rattle.planner.specs.Rest.{stack}
 use Rattle.planner.specs.Waiting.{order}
 use Rattle.planner.specs.Loop.{at, State, greater-time, try-test}
 use Rattle.planner.specs.Moves.{at-start, taken-back, tried-in-vain, job-placed}
-use Rattle.planner.specs.Results.{room, exhausted, overspent, all-are-placed}
+use Rattle.planner.specs.Results.{deep, room, exhausted, overspent, all-are-placed}
 use Rattle.planner.proofs.search.Statement.{statement}
 use Rattle.planner.proofs.search.Tie as tie
 
 abbrev Inv-loop : tie.InvT-loop
-Inv-loop valid budget board jobs₀ lefts₀ frees₀ starts₀ depth₀ unplaced₀ left₀ free₀ tries₀ jobs lefts frees starts depth unplaced left free tries =
-    State board jobs lefts frees starts depth unplaced left (toZ w32 free) tries budget
+Inv-loop valid budget board jobs₀ lefts₀ frees₀ depth₀ unplaced₀ left₀ free₀ tries₀ jobs lefts frees depth unplaced left free tries =
+    State board jobs lefts frees depth unplaced left (toZ w32 free) tries budget
 
 abbrev μ-loop : tie.MeasureT-loop
-μ-loop valid budget board jobs₀ lefts₀ frees₀ starts₀ depth₀ unplaced₀ left₀ free₀ tries₀ jobs lefts frees starts depth unplaced left free tries =
+μ-loop valid budget board jobs₀ lefts₀ frees₀ depth₀ unplaced₀ left₀ free₀ tries₀ jobs lefts frees depth unplaced left free tries =
     (budget - tries) * 2 + depth
 
 -- the state at the head of the loop, and what it says of the depth
 held : (c : tie.In-loop Inv-loop μ-loop)
     → let l = c .before .loop in
     let a = c .before .before .args in
-    State (a .t1) (l .jobs) (l .lefts) (l .frees) (l .starts) (l .depth) (l .unplaced) (l .left) (toZ w32 (l .free)) (l .tries) (a .budget)
+    State (a .t1) (l .jobs) (l .lefts) (l .frees) (l .depth) (l .unplaced) (l .left) (toZ w32 (l .free)) (l .tries) (a .budget)
 held c = c .before .loop .inv
 
 depth-room : (c : tie.In-loop Inv-loop μ-loop) → c .before .loop .depth < 64
-depth-room c = room _ (c .before .before .pre .0) _ _ _ _ _ _ _ _ _ _ (held c) (c .loop-test .taken)
+depth-room c = room _ (c .before .before .pre .0) _ _ _ _ _ _ _ _ _ (held c) (c .loop-test .taken)
 
 -- the last placing taken back
 went-back : (c : tie.Else2 Inv-loop μ-loop)
     → let l = c .before .before .before .loop in
     let a = c .before .before .before .before .args in
     let d = l .depth - 1 in
-    State (a .t1) (l .jobs) (l .lefts) (l .frees) (l .starts) d (with (l .unplaced) (getD (l .jobs) d 0)) (getD (l .lefts) d 0) (getD (l .frees) d (pos 0)) (l .tries) (a .budget)
+    State (a .t1) (l .jobs) (l .lefts) (l .frees) d (with (l .unplaced) (getD (l .jobs) d 0)) (getD (l .lefts) d 0) (getD (l .frees) d (pos 0)) (l .tries) (a .budget)
 went-back c =
     let deeper = c .if2 .left in
-    taken-back _ (c .before .before .before .before .pre .0) _ _ _ _ _ _ _ _ _ _ (held (c .before .before)) (c .before .before .loop-test .taken)
+    taken-back _ (c .before .before .before .before .pre .0) _ _ _ _ _ _ _ _ _ (held (c .before .before)) (c .before .before .loop-test .taken)
     (c .before .if1 .taken) _ (omega (arith, deeper))
 
 -- the way from a try back to the head of the loop
@@ -84,14 +84,20 @@ start-time c =
     rw (start-read c) (greater-time (r .earliest) (held (head n) .dock .time))
 
 -- when it would end
-end-is : (c : tie.After-sum Inv-loop μ-loop)
+finish-is : (c : tie.After-sum Inv-loop μ-loop)
     → let n = picked c in
-    c .sum .result ≡ c .before .before .greater .result +ℤ L (view (head n .before .before .args .t1)) (n .lowest .result)
-end-is c =
+    let l = head n .before .loop in
+    let b = head n .before .before .args .t1 in
+    c .sum .result ≡ startAfter (view b) (stack (at b (l .jobs)) (l .depth)) (n .lowest .result) +ℤ L (view b) (n .lowest .result)
+finish-is c =
     let n = picked c in
     let start = head n .before .before in
-    let work = length-fits (lengths-within (start .args .t1) (start .pre .0)) (n .lowest .result) in
-    simp (toZ-ofZ, time-fits (start-time (c .before .before)), work) at (c .sum .ensures)
+    let b = start .args .t1 in
+    let j = n .lowest .result in
+    let g = c .before .before in
+    let starts = start-read g ∙ sym (held (head n) .dock .start j) in
+    simp (toZ-ofZ, time-fits (start-time g), length-fits (lengths-within b (start .pre .0)) j) at (c .sum .ensures)
+    ∙ ap (λ (z : ℤ). z +ℤ L (view b) j) starts
 
 -- what the test says of the try
 tested : (c : tie.After-places Inv-loop μ-loop)
@@ -108,9 +114,8 @@ tested c =
     let s = held (head n) in
     let j = n .lowest .result in
     let ends : SFits w32 (e .sum .result) = search needs in
-    let starts = start-read (e .before .before) ∙ sym (s .dock .start j) in
     simp (toZ-ofZ, ends, time-fits (ranges b (start .pre .0) j .latest)) at (c .places .ensures)
-    ∙ try-test b (start .pre .0) _ j _ _ (s .waiting) (end-is e ∙ ap (λ (z : ℤ). z +ℤ L (view b) j) starts)
+    ∙ try-test b (start .pre .0) _ j _ _ (s .waiting) (finish-is e)
 
 -- the job placed
 put-in : (c : tie.After-places Inv-loop μ-loop) → c .places .result ≡ true
@@ -121,15 +126,14 @@ put-in : (c : tie.After-places Inv-loop μ-loop) → c .places .result ≡ true
     let j = n .lowest .result in
     let w = without width (l .unplaced) j in
     State (a .t1) (set (l .jobs) (l .depth) j) (set (l .lefts) (l .depth) (without width (l .left) j)) (set (l .frees) (l .depth) (toZ w32 (l .free)))
-    (set (l .starts) j (e .before .before .greater .result)) (l .depth + 1) w w (e .sum .result) (l .tries + 1) (a .budget)
+    (l .depth + 1) w w (e .sum .result) (l .tries + 1) (a .budget)
 put-in c holds =
     let e = c .before .before .before in
     let n = picked e in
     let s = head n in
     let more = n .before .if3 .left in
-    let starts = start-read (e .before .before) ∙ sym (held s .dock .start (n .lowest .result)) in
-    job-placed _ (s .before .before .pre .0) _ _ _ _ _ _ _ _ _ _ (held s) (s .loop-test .taken) _ (n .lowest .ensures)
-    (omega (arith, more, held s .affordable)) _ _ starts (end-is e) (depth-room s) (sym (tested c) ∙ holds)
+    job-placed _ (s .before .before .pre .0) _ _ _ _ _ _ _ _ _ (held s) (s .loop-test .taken) _ (n .lowest .ensures)
+    (omega (arith, more, held s .affordable)) _ (finish-is e) (depth-room s) (sym (tested c) ∙ holds)
 
 loop-holds : tie.Need-loop-holds Inv-loop μ-loop
 loop-holds c =
@@ -143,7 +147,7 @@ returns : tie.Need-returns Inv-loop μ-loop
 returns c =
     let s = c .before .before .before in
     c .unplanned .ensures
-    ∙ exhausted _ (s .before .before .pre .0) _ _ _ _ _ _ _ _ _ _ (held s) (s .loop-test .taken) (c .before .before .if1 .taken) (c .before .if2 .taken)
+    ∙ exhausted _ (s .before .before .pre .0) _ _ _ _ _ _ _ _ _ (held s) (s .loop-test .taken) (c .before .before .if1 .taken) (c .before .if2 .taken)
 
 sub-depth : tie.Need-sub-depth Inv-loop μ-loop
 sub-depth c = let deeper = c .if2 .left in omega (arith, deeper)
@@ -189,7 +193,7 @@ returns-2 : tie.Need-returns-2 Inv-loop μ-loop
 returns-2 c =
     let s = c .before .before .before in
     c .unplanned2 .ensures
-    ∙ overspent _ (s .before .before .pre .0) _ _ _ _ _ _ _ _ _ _ (held s) (s .loop-test .taken) (c .before .before .if1 .left) (c .before .if3 .taken)
+    ∙ overspent _ (s .before .before .pre .0) _ _ _ _ _ _ _ _ _ (held s) (s .loop-test .taken) (c .before .before .if1 .left) (c .before .if3 .taken)
 
 add-tries : tie.Need-add-tries Inv-loop μ-loop
 add-tries c = let more = c .if3 .left in record { fits = omega (arith, more, held (c .before .before) .affordable, c .before .before .before .before .fits .budget .fits) }
@@ -257,12 +261,6 @@ mul-frees c = record { fits = omega (arith, depth-room (c .before .before .befor
 array-set-from-frees : tie.Need-array-set-from-frees Inv-loop μ-loop
 array-set-from-frees c = depth-room (c .before .before .before .before .before .before .before .before .before .before .before .before)
 
-mul-starts : tie.Need-mul-starts Inv-loop μ-loop
-mul-starts c = let j = c .before .before .before .before .before .before .before .before .before .lowest .ensures .width in record { fits = omega (arith, j) }
-
-array-set-from-starts : tie.Need-array-set-from-starts Inv-loop μ-loop
-array-set-from-starts c = c .before .before .before .before .before .before .before .before .before .lowest .ensures .width
-
 add-depth : tie.Need-add-depth Inv-loop μ-loop
 add-depth c = record { fits = omega (arith, depth-room (c .before .before .before .before .before .before .before .before .before .before .before .before)) }
 
@@ -279,8 +277,7 @@ loop-again-2 c =
     let t = c .before .before in
     let e = t .before .before .before in
     let ends : SFits w32 (e .sum .result) = search needs in
-    let starts = time-fits (start-time (e .before .before)) in
-    rw (c .without2 .ensures, e .before .before .before .before .without .ensures) (simp (toZ-ofZ, ends, starts) (put-in t (c .before .if4 .taken)))
+    rw (c .without2 .ensures, e .before .before .before .before .without .ensures) (simp (toZ-ofZ, ends) (put-in t (c .before .if4 .taken)))
 
 loop-less-3 : tie.Need-loop-less-3 Inv-loop μ-loop
 loop-less-3 c =
@@ -293,13 +290,21 @@ loop-again-3 c =
     let s = head n in
     let more = n .before .if3 .left in
     rw (c .before .before .before .before .before .before .before .before .without .ensures)
-    (tried-in-vain _ (s .before .before .pre .0) _ _ _ _ _ _ _ _ _ _ (held s) (s .loop-test .taken) _ (n .lowest .ensures)
+    (tried-in-vain _ (s .before .before .pre .0) _ _ _ _ _ _ _ _ _ (held s) (s .loop-test .taken) _ (n .lowest .ensures)
     (omega (arith, more, held s .affordable)) (sym (tested (c .before)) ∙ c .if4 .left))
+
+found-requires : tie.Need-found-requires Inv-loop μ-loop
+found-requires c κs =
+    let start = c .before .before in
+    let s = c .before .loop .inv in
+    (start .pre .0, omega (arith, deep _ (start .pre .0) _ _ _ _ _ _ _ _ _ s), λ d less. (s .placements d less .job .0, s .placements d less .ends))
 
 returns-3 : tie.Need-returns-3 Inv-loop μ-loop
 returns-3 c =
-    let start = c .before .before in
-    all-are-placed _ (start .pre .0) _ _ _ _ _ _ _ _ _ _ (c .before .loop .inv) (c .loop-test .left) (start .args .valid)
+    let s = c .before in
+    let start = s .before .before in
+    c .found .ensures
+    ∙ all-are-placed _ (start .pre .0) _ _ _ _ _ _ _ _ _ (s .before .loop .inv) (s .loop-test .left) (start .args .valid)
     λ k. ap (λ (x : ℕ). bit x k) (start .pre .1) ∙ bit-valid (start .args .t1) k
 
 pub search-spec : {M : Type 1} → statement M
@@ -343,12 +348,11 @@ search-spec =
     array-write-lefts
     mul-frees
     array-set-from-frees
-    mul-starts
-    array-set-from-starts
     add-depth
     without-requires-2
     loop-less-2
     loop-again-2
     loop-less-3
     loop-again-3
+    found-requires
     returns-3)

@@ -1,9 +1,9 @@
--- `examples::write::time` ends without overflow: an i32 fits an i64. Assumes nothing.
+-- `writing::time` ends without overflow: an i32 fits an i64. Assumes nothing.
 use borrow.Author.Needs.{needs}
 use mir.ValLaws.{toZ-ofZ}
-use Rattle.examples.specs.Wide.{narrow, wide}
-use Rattle.examples.proofs.write.time.Statement.{statement}
-use Rattle.examples.proofs.write.time.Tie as tie
+use Rattle.writing.specs.Wide.{narrow, wide}
+use Rattle.writing.proofs.time.Statement.{statement}
+use Rattle.writing.proofs.time.Tie as tie
 
 slice-aggregate-text : tie.Need-slice-aggregate-text
 slice-aggregate-text c = search needs

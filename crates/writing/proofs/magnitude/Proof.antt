@@ -1,10 +1,10 @@
--- `examples::write::magnitude` ends without overflow: the number is turned where it is negative. Assumes nothing.
+-- `writing::magnitude` ends without overflow: the number is turned where it is negative. Assumes nothing.
 use borrow.Author.Needs.{needs}
 use mir.ValLaws.{toZ-ofZ}
 use Rattle.minutes.specs.Linear.{whole}
-use Rattle.examples.specs.Wide.{turned-wide, unsigned, turned-unsigned}
-use Rattle.examples.proofs.write.magnitude.Statement.{statement}
-use Rattle.examples.proofs.write.magnitude.Tie as tie
+use Rattle.writing.specs.Wide.{turned-wide, unsigned, turned-unsigned}
+use Rattle.writing.proofs.magnitude.Statement.{statement}
+use Rattle.writing.proofs.magnitude.Tie as tie
 
 sub-result : tie.Need-sub-result
 sub-result c = let s = c .before in simp (toZ-ofZ, s .fits .z) (turned-wide (s .args .z) (s .pre))

@@ -1,8 +1,8 @@
--- `examples::write::placements` ends: each job of the board comes once. Assumes nothing.
+-- `writing::placements` ends: each job of the board comes once. Assumes nothing.
 use Prim.Native.Nat.{_-_, _≤_}
 use borrow.Author.Needs.{needs}
-use Rattle.examples.proofs.write.placements.Statement.{statement}
-use Rattle.examples.proofs.write.placements.Tie as tie
+use Rattle.writing.proofs.placements.Statement.{statement}
+use Rattle.writing.proofs.placements.Tie as tie
 
 abbrev Inv-loop : tie.InvT-loop
 Inv-loop placed starts job₀ job = job ≤ 64

@@ -1,0 +1,44 @@
+-- The starts of the jobs placed, listed one after the other in the order of placing.
+use mathlib.Core.Path.{_≡_, refl, sym, _∙_}
+use mathlib.Core.Bool.{true}
+use mathlib.Core.List.{List}
+use Prim.Native.Nat.{ℕ, suc, _+_}
+use native.Mathlib.Omega.{arith}
+use lib.IntN.{ℤ, pos, _+ℤ_}
+use lib.ListN.{set, replicate}
+use Rattle.minutes.specs.Time.{greater}
+use Rattle.board.specs.declared.Board.{Board}
+use Rattle.board.specs.Paper.Limits.{Within, firstMinute, jobLimit}
+use Rattle.board.specs.Paper.Rules.{E, L}
+use Rattle.board.specs.Paper.View.{view}
+use Rattle.tries.specs.Paper.Planner.{startList}
+use Rattle.tries.specs.Paper.Tries.{startAfter, inTime}
+use Rattle.planner.specs.Rest.{stack}
+use Rattle.planner.specs.Loop.{FreeFrom, at, free-at-first, free-after}
+
+module _ (b : Board) where
+  -- the starts of the first k jobs, and the minute from which the dock is free after them
+  pub record Listed (jobs : List ℕ) (starts : List ℤ) (k : ℕ) (free : ℤ) : Type 0 where
+    pub dock : FreeFrom b (stack (at b jobs) k) free
+    pub list : starts ≡ startList (view b) (stack (at b jobs) k)
+
+  module _ (h : Within b) (jobs : List ℕ) where
+    pub none-listed : Listed jobs (replicate jobLimit (pos 0)) 0 firstMinute
+    unfolding stack startList
+    none-listed = record { dock = free-at-first b h; list = refl }
+
+    pub next-listed : (starts : List ℤ) (k : ℕ) (free start finish : ℤ) → Listed jobs starts k free
+        → inTime (view b) (stack (at b jobs) k) (at b jobs k) ≡ true
+        → start ≡ greater (E (view b) (at b jobs k)) free → finish ≡ start +ℤ L (view b) (at b jobs k)
+        → Listed jobs (set starts (at b jobs k) start) (k + 1) finish
+    unfolding stack startList
+    next-listed starts k free start finish s ends begins e =
+        let j = at b jobs k in
+        let ps = stack (at b jobs) k in
+        let one-more : k + 1 ≡ suc k = omega arith in
+        let is : start ≡ startAfter (view b) ps j = begins ∙ sym (s .dock .start j) in
+        rw one-more
+        record {
+          dock = rw (e, is) (free-after b h j ps free (s .dock) ends);
+          list = rw (is, s .list);
+        }
