@@ -49,9 +49,9 @@ fn starts(board: Board, jobs: [usize; Board::JOBS], count: usize) -> [i32; Board
     let mut free = Board::FIRST_MINUTE;
     for k in 0..count {
         let job = jobs[k];
-        let start = minutes::greater(board.earliest[job], free);
-        starts[job] = start;
-        free = minutes::sum(start, board.lengths[job]);
+        let time = minutes::greater(board.earliest[job], free);
+        starts[job] = time;
+        free = minutes::sum(time, board.lengths[job]);
     }
     starts
 }
