@@ -1,3 +1,4 @@
+-- The laws of the calls on a board by reference: one for those that alter it, one for those that look at it.
 pub mod Altered
 pub mod Called
 pub mod Looked

@@ -23,6 +23,14 @@ use Rattle.tries.specs.Paper.Tries.{Outcome, add, _orElse_, startAfter, inTime,
 use Rattle.planner.specs.Rest.{stack, here, back}
 use Rattle.planner.specs.Waiting.{order, Waiting, WaitingWord, waitingCount, ready-word}
 
+-- what an array of the code has at a place
+abbrev pub at : List ℕ → ℕ → ℕ
+at l d = getD l d 0
+
+abbrev pub timeAt : List ℤ → ℕ → ℤ
+timeAt l d = getD l d (pos 0)
+
+-- "the later of E and the end of the job placed before": E where that is no earlier, and a time
 no-later : (a c : ℤ) → c ≤ℤ a → greater a c ≡ a
 no-later a c l = let e : ltZ a c ≡ false = omega whole in rw e
 
@@ -42,12 +50,6 @@ module _ (b : Board) where
     pub untried : (k : ℕ) → bit left k ≡ true → Waiting b ps k
     pub dock : FreeFrom ps free
     pub ends : inTime (view b) ps j ≡ true
-
-  abbrev pub at : List ℕ → ℕ → ℕ
-  at l d = getD l d 0
-
-  abbrev pub timeAt : List ℤ → ℕ → ℤ
-  timeAt l d = getD l d (pos 0)
 
   -- the jobs placed up to a depth
   abbrev pub Placements : List ℕ → List ℕ → List ℤ → ℕ → Type 0

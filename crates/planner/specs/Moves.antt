@@ -58,43 +58,43 @@ module _ (b : Board) (h : Within b) where
       (s : State b jobs lefts frees depth w left free t budget) (waits : w ≢ 0) where
     -- a placing is taken back
     pub taken-back : left ≡ 0 → (d : ℕ) → depth ≡ suc d
-        → State b jobs lefts frees d (with w (at b jobs d)) (at b lefts d) (timeAt b frees d) t budget
+        → State b jobs lefts frees d (with w (at jobs d)) (at lefts d) (timeAt frees d) t budget
     unfolding stack back
     taken-back none-left d e =
         let v = view b in
         let o = order b in
         let s′ = rw (e, none-left) at s in
         let last = s′ .placements d (omega arith) in
-        let (n, count) = some-waits b w (stack (at b jobs) (suc d)) (s′ .waiting) waits in
-        let now = tried-all v o (outcome b) t n (stack (at b jobs) (suc d)) 0 _ (rw count at (s′ .so-far)) (no-members b) in
+        let (n, count) = some-waits b w (stack (at jobs) (suc d)) (s′ .waiting) waits in
+        let now = tried-all v o (outcome b) t n (stack (at jobs) (suc d)) 0 _ (rw count at (s′ .so-far)) (no-members b) in
         record {
           jobs-shape = s .jobs-shape;
           lefts-shape = s .lefts-shape;
           frees-shape = s .frees-shape;
           placements = λ i l. s′ .placements i (omega arith);
-          waiting = waiting-back b w (at b jobs d) (stack (at b jobs) d) (s′ .waiting) (last .job);
+          waiting = waiting-back b w (at jobs d) (stack (at jobs) d) (s′ .waiting) (last .job);
           untried = last .untried;
           dock = last .dock;
           affordable = s .affordable;
-          counted = omega (arith, s′ .counted, count-placed b (at b jobs d) (stack (at b jobs) d) (last .job));
-          so-far = rw (← count-placed b (at b jobs d) (stack (at b jobs) d) (last .job), count) now;
+          counted = omega (arith, s′ .counted, count-placed b (at jobs d) (stack (at jobs) d) (last .job));
+          so-far = rw (← count-placed b (at jobs d) (stack (at jobs) d) (last .job), count) now;
         }
 
     -- a try is due: job j comes next
     module _ (j : ℕ) (low : Lowest width left j) (affords : t < budget) where
-      due : Waiting b (stack (at b jobs) depth) j
+      due : Waiting b (stack (at jobs) depth) j
       due = s .untried j (low .member)
 
-      later : (k : ℕ) → bit (without width left j) k ≡ true → Waiting b (stack (at b jobs) depth) k
+      later : (k : ℕ) → bit (without width left j) k ≡ true → Waiting b (stack (at jobs) depth) k
       later k m = s .untried k (without-inside width left j (waiting-fits b h left _ (s .untried)) (low .width) k m)
 
       -- it places no job
-      pub tried-in-vain : (ready (view b) (order b) (stack (at b jobs) depth) j && inTime (view b) (stack (at b jobs) depth) j) ≡ false
+      pub tried-in-vain : (ready (view b) (order b) (stack (at jobs) depth) j && inTime (view b) (stack (at jobs) depth) j) ≡ false
           → State b jobs lefts frees depth w (without width left j) free (t + 1) budget
       tried-in-vain fails =
           let v = view b in
           let o = order b in
-          let ps = stack (at b jobs) depth in
+          let ps = stack (at jobs) depth in
           let (n, count) = some-waits b w ps (s .waiting) waits in
           let next = least-first b h left j ps (s .untried) low in
           let now = not-placed v o (outcome b) t n ps left _ (rw count at (s .so-far)) j (without width left j) next fails in
@@ -113,9 +113,9 @@ module _ (b : Board) (h : Within b) where
 
       -- it places job j
       module _ (finish : ℤ)
-          (finish-is : finish ≡ startAfter (view b) (stack (at b jobs) depth) j +ℤ L (view b) j)
+          (finish-is : finish ≡ startAfter (view b) (stack (at jobs) depth) j +ℤ L (view b) j)
           (room : depth < jobLimit)
-          (places : (ready (view b) (order b) (stack (at b jobs) depth) j && inTime (view b) (stack (at b jobs) depth) j) ≡ true) where
+          (places : (ready (view b) (order b) (stack (at jobs) depth) j && inTime (view b) (stack (at jobs) depth) j) ≡ true) where
         abbrev jobs′ : List ℕ
         jobs′ = set jobs depth j
 
@@ -126,28 +126,28 @@ module _ (b : Board) (h : Within b) where
         earlier : {A : Type 0} (l : List A) (x y : A) (d : ℕ) → d < depth → getD (set l depth x) d y ≡ getD l d y
         earlier l x y d less = getD-set-other l depth d x y (omega arith)
 
-        same-stack : (d : ℕ) → d ≤ depth → stack (at b jobs′) d ≡ stack (at b jobs) d
+        same-stack : (d : ℕ) → d ≤ depth → stack (at jobs′) d ≡ stack (at jobs) d
         same-stack d l = stack-same _ _ d λ i less. earlier jobs j 0 i (omega arith)
 
-        last-job : at b jobs′ depth ≡ j
+        last-job : at jobs′ depth ≡ j
         last-job = getD-set-same jobs depth j 0 (omega (arith, room, s .jobs-shape))
 
-        last-left : at b lefts′ depth ≡ without width left j
+        last-left : at lefts′ depth ≡ without width left j
         last-left = getD-set-same lefts depth (without width left j) 0 (omega (arith, room, s .lefts-shape))
 
-        longer : stack (at b jobs′) (suc depth) ≡ j ∷ stack (at b jobs) depth
+        longer : stack (at jobs′) (suc depth) ≡ j ∷ stack (at jobs) depth
         unfolding stack
         longer = rw (last-job, same-stack depth (omega arith))
 
-        in-time : inTime (view b) (stack (at b jobs) depth) j ≡ true
-        in-time = and-parts (ready (view b) (order b) (stack (at b jobs) depth) j) (inTime (view b) (stack (at b jobs) depth) j) places .1
+        in-time : inTime (view b) (stack (at jobs) depth) j ≡ true
+        in-time = and-parts (ready (view b) (order b) (stack (at jobs) depth) j) (inTime (view b) (stack (at jobs) depth) j) places .1
 
         stored : Placements b jobs′ lefts′ (set frees depth free) (suc depth)
         stored d less = go (ℕ-discrete d depth)
           where
             go : Dec (d ≡ depth)
-                → Placement b (stack (at b jobs′) d) (at b jobs′ d) (at b lefts′ d)
-                (timeAt b (set frees depth free) d)
+                → Placement b (stack (at jobs′) d) (at jobs′ d) (at lefts′ d)
+                (timeAt (set frees depth free) d)
             go (yes e) =
                 rw (
                   e,
@@ -172,7 +172,7 @@ module _ (b : Board) (h : Within b) where
         job-placed =
             let v = view b in
             let o = order b in
-            let ps = stack (at b jobs) depth in
+            let ps = stack (at jobs) depth in
             let w′ = without width w j in
             let (n, count) = some-waits b w ps (s .waiting) waits in
             let now = placed v o (outcome b) t n ps left _ (rw count at (s .so-far)) j (without width left j)
@@ -200,6 +200,6 @@ module _ (b : Board) (h : Within b) where
                     same-stack depth (omega arith),
                     last-left,
                     search-here v o n (j ∷ ps) w′ (waiting-members b w′ (j ∷ ps) wait),
-                    back-same v o (at b jobs′) (at b jobs) (at b lefts′) (at b lefts) (suc n) depth (earlier jobs j 0) (earlier lefts _ 0),
+                    back-same v o (at jobs′) (at jobs) (at lefts′) (at lefts) (suc n) depth (earlier jobs j 0) (earlier lefts _ 0),
                   );
             }

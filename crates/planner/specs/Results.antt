@@ -44,11 +44,11 @@ beyond-budget v budget (none u) = rw (lt-leb (budget + 1 + u) budget (omega arit
 
 -- the jobs of the stack are valid
 stacked : (b : Board) (jobs lefts : List ℕ) (frees : List ℤ) (depth : ℕ) → Placements b jobs lefts frees depth
-    → (k : ℕ) → among (stack (at b jobs) depth) k ≡ true → valid (view b) k ≡ true
+    → (k : ℕ) → among (stack (at jobs) depth) k ≡ true → valid (view b) k ≡ true
 unfolding stack
 stacked b jobs lefts frees zero p k a = absurd (refuted (none-among k) a)
 stacked b jobs lefts frees (suc d) p k a =
-    last-and-before (view b) (λ i z. valid (view b) i ≡ true) (at b jobs d) (stack (at b jobs) d)
+    last-and-before (view b) (λ i z. valid (view b) i ≡ true) (at jobs d) (stack (at jobs) d)
     (p d (omega arith) .job .0)
     (stacked b jobs lefts frees d λ i l. p i (omega arith))
     k a
@@ -56,7 +56,7 @@ stacked b jobs lefts frees (suc d) p k a =
 module _ (b : Board) (h : Within b) (jobs lefts : List ℕ) (frees : List ℤ) (depth w left : ℕ) (free : ℤ) (t budget : ℕ)
     (s : State b jobs lefts frees depth w left free t budget) where
   -- no more jobs are placed than the board has places
-  pub deep : depth + waitingCount b (stack (at b jobs) depth) ≤ jobLimit
+  pub deep : depth + waitingCount b (stack (at jobs) depth) ≤ jobLimit
   deep = omega (arith, s .counted, kept-at-most (valid (view b)) (range 0 (b .jobs)), range-length 0 (b .jobs), h .limits .jobs)
 
   pub room : w ≢ 0 → depth < jobLimit
@@ -73,7 +73,7 @@ module _ (b : Board) (h : Within b) (jobs lefts : List ℕ) (frees : List ℤ) (
 
   pub overspent : w ≢ 0 → left ≢ 0 → t ≡ budget → unplanned (Answers.Spent budget) ≡ answer (view b) budget (outcome b)
   overspent waits some all =
-      let ps = stack (at b jobs) depth in
+      let ps = stack (at jobs) depth in
       let j = trailingZeros width left in
       let low = trailing-lowest width left some (waiting-fits b h left ps (s .untried)) in
       let (n, count) = some-waits b w ps (s .waiting) waits in
@@ -83,15 +83,15 @@ module _ (b : Board) (h : Within b) (jobs lefts : List ℕ) (frees : List ℤ) (
 
   module _ (empty : w ≡ 0) where
     -- the jobs placed are the valid ones
-    placed-valid : (k : ℕ) → among (stack (at b jobs) depth) k ≡ valid (view b) k
+    placed-valid : (k : ℕ) → among (stack (at jobs) depth) k ≡ valid (view b) k
     placed-valid k =
         same-tests _ _ (stacked b jobs lefts frees depth (s .placements) k) λ e.
         is-true _ λ out. refuted (bit-zero k) (rw empty at (s .waiting k .show (e, out)))
 
     pub all-are-placed : (valids : ℕ) → ((k : ℕ) → bit valids k ≡ valid (view b) k)
-        → record { answer = Answers.Found t; placed = valids; starts = startList (view b) (stack (at b jobs) depth) } ≡ answer (view b) budget (outcome b)
+        → record { answer = Answers.Found t; placed = valids; starts = startList (view b) (stack (at jobs) depth) } ≡ answer (view b) budget (outcome b)
     all-are-placed valids valid-word =
-        let ps = stack (at b jobs) depth in
+        let ps = stack (at jobs) depth in
         let none-waits : waitingCount b ps ≡ 0 = ap length (sym (waiting-members b w ps (s .waiting)) ∙ ap (members (view b)) empty ∙ no-members b) in
         let whole = all-found (view b) (order b) (outcome b) t ps left _ (rw none-waits at (s .so-far)) in
         let word : valids ≡ placedWord ps = bit-ext valids (placedWord ps) λ k. valid-word k ∙ sym (placed-valid k) ∙ sym (placed-bit ps k) in

@@ -19,8 +19,8 @@ use Rattle.planner.specs.Loop.{FreeFrom, at, free-at-first, free-after}
 module _ (b : Board) where
   -- the starts of the first k jobs, and the minute from which the dock is free after them
   pub record Listed (jobs : List ℕ) (starts : List ℤ) (k : ℕ) (free : ℤ) : Type 0 where
-    pub dock : FreeFrom b (stack (at b jobs) k) free
-    pub list : starts ≡ startList (view b) (stack (at b jobs) k)
+    pub dock : FreeFrom b (stack (at jobs) k) free
+    pub list : starts ≡ startList (view b) (stack (at jobs) k)
 
   module _ (h : Within b) (jobs : List ℕ) where
     pub none-listed : Listed jobs (replicate jobLimit (pos 0)) 0 firstMinute
@@ -28,13 +28,13 @@ module _ (b : Board) where
     none-listed = record { dock = free-at-first b h; list = refl }
 
     pub next-listed : (starts : List ℤ) (k : ℕ) (free start finish : ℤ) → Listed jobs starts k free
-        → inTime (view b) (stack (at b jobs) k) (at b jobs k) ≡ true
-        → start ≡ greater (E (view b) (at b jobs k)) free → finish ≡ start +ℤ L (view b) (at b jobs k)
-        → Listed jobs (set starts (at b jobs k) start) (k + 1) finish
+        → inTime (view b) (stack (at jobs) k) (at jobs k) ≡ true
+        → start ≡ greater (E (view b) (at jobs k)) free → finish ≡ start +ℤ L (view b) (at jobs k)
+        → Listed jobs (set starts (at jobs k) start) (k + 1) finish
     unfolding stack startList
     next-listed starts k free start finish s ends begins e =
-        let j = at b jobs k in
-        let ps = stack (at b jobs) k in
+        let j = at jobs k in
+        let ps = stack (at jobs) k in
         let one-more : k + 1 ≡ suc k = omega arith in
         let is : start ≡ startAfter (view b) ps j = begins ∙ sym (s .dock .start j) in
         rw one-more

@@ -43,7 +43,7 @@ fn places(before: u64, unplaced: u64, end: i32, latest: i32) -> bool
 // is". Before any job the dock counts as free from the first minute on.
 fn starts(board: Board, jobs: [usize; Board::JOBS], count: usize) -> [i32; Board::JOBS]
     requires { ⌜ Within board × (count ≤ jobLimit) × Timely board jobs count ⌝ }
-    ensures { λ r. ⌜ r ≡ paper.startList (view board) (stack (at board jobs) count) ⌝ }
+    ensures { λ r. ⌜ r ≡ paper.startList (view board) (stack (at jobs) count) ⌝ }
 {
     let mut starts = [0; Board::JOBS];
     let mut free = Board::FIRST_MINUTE;
@@ -59,7 +59,7 @@ fn starts(board: Board, jobs: [usize; Board::JOBS], count: usize) -> [i32; Board
 // The answer where all valid jobs are placed.
 fn found(board: Board, jobs: [usize; Board::JOBS], count: usize, valid: u64, tries: u32) -> Planned
     requires { ⌜ Within board × (count ≤ jobLimit) × Timely board jobs count ⌝ }
-    ensures { λ r. ⌜ r ≡ record { answer = PlanAnswer.Found tries; placed = valid; starts = paper.startList (view board) (stack (at board jobs) count) } ⌝ }
+    ensures { λ r. ⌜ r ≡ record { answer = PlanAnswer.Found tries; placed = valid; starts = paper.startList (view board) (stack (at jobs) count) } ⌝ }
 {
     Planned {
         answer: PlanAnswer::Found(tries),

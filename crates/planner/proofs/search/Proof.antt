@@ -3,7 +3,6 @@ use mathlib.Core.Bool.{true, _&&_}
 use mathlib.Core.Path.{_≡_, sym, ap, _∙_}
 use Prim.Native.Nat.{ℕ, _+_, _-_, _*_, _<_}
 use native.Mathlib.Omega.{arith}
-use borrow.Author.Needs.{needs}
 use lib.IntN.{ℤ, pos, _+ℤ_}
 use lib.ListN.{getD, set}
 use mir.Syntax.{w32}
@@ -88,7 +87,7 @@ finish-is : (c : tie.After-sum Inv-loop μ-loop)
     → let n = picked c in
     let l = head n .before .loop in
     let b = head n .before .before .args .t1 in
-    c .sum .result ≡ startAfter (view b) (stack (at b (l .jobs)) (l .depth)) (n .lowest .result) +ℤ L (view b) (n .lowest .result)
+    c .sum .result ≡ startAfter (view b) (stack (at (l .jobs)) (l .depth)) (n .lowest .result) +ℤ L (view b) (n .lowest .result)
 finish-is c =
     let n = picked c in
     let start = head n .before .before in
@@ -104,7 +103,7 @@ tested : (c : tie.After-places Inv-loop μ-loop)
     → let n = picked (c .before .before .before) in
     let l = head n .before .loop in
     let b = head n .before .before .args .t1 in
-    let ps = stack (at b (l .jobs)) (l .depth) in
+    let ps = stack (at (l .jobs)) (l .depth) in
     c .places .result ≡ (ready (view b) (order b) ps (n .lowest .result) && inTime (view b) ps (n .lowest .result))
 tested c =
     let e = c .before .before .before in
@@ -113,7 +112,7 @@ tested c =
     let b = start .args .t1 in
     let s = held (head n) in
     let j = n .lowest .result in
-    let ends : SFits w32 (e .sum .result) = search needs in
+    let ends : SFits w32 (e .sum .result) = record { sfits = e .sum .ok } in
     simp (toZ-ofZ, ends, time-fits (ranges b (start .pre .0) j .latest)) at (c .places .ensures)
     ∙ try-test b (start .pre .0) _ j _ _ (s .waiting) (finish-is e)
 
@@ -141,7 +140,7 @@ loop-holds c =
     at-start b (c .pre .0) (c .args .valid) (λ k. ap (λ (x : ℕ). bit x k) (c .pre .1) ∙ bit-valid b k) (c .args .budget)
 
 unplanned-requires : tie.Need-unplanned-requires Inv-loop μ-loop
-unplanned-requires c κs = search needs
+unplanned-requires c κs = tt
 
 returns : tie.Need-returns Inv-loop μ-loop
 returns c =
@@ -187,7 +186,7 @@ loop-again c =
     rw (c .before .with .ensures) (simp (toZ-ofZ, time-fits (s .dock .time)) s)
 
 unplanned-requires-2 : tie.Need-unplanned-requires-2 Inv-loop μ-loop
-unplanned-requires-2 c κs = search needs
+unplanned-requires-2 c κs = tt
 
 returns-2 : tie.Need-returns-2 Inv-loop μ-loop
 returns-2 c =
@@ -211,13 +210,13 @@ element-copy-out-greater : tie.Need-element-copy-out-greater Inv-loop μ-loop
 element-copy-out-greater c = c .before .lowest .ensures .width
 
 greater-requires : tie.Need-greater-requires Inv-loop μ-loop
-greater-requires c κs = search needs
+greater-requires c κs = tt
 
 mul-sum : tie.Need-mul-sum Inv-loop μ-loop
-mul-sum c = search needs
+mul-sum c = let j = c .before .before .before .lowest .ensures .width in record { fits = omega (arith, j) }
 
 element-copy-out-sum : tie.Need-element-copy-out-sum Inv-loop μ-loop
-element-copy-out-sum c = search needs
+element-copy-out-sum c = c .before .before .before .lowest .ensures .width
 
 sum-requires : tie.Need-sum-requires Inv-loop μ-loop
 sum-requires c κs =
@@ -229,19 +228,19 @@ sum-requires c κs =
     simp (toZ-ofZ, time-fits t, length-fits (lengths-within b (start .pre .0)) (n .lowest .result)) (time-moderate t, length-moderate r)
 
 mul-places : tie.Need-mul-places Inv-loop μ-loop
-mul-places c = search needs
+mul-places c = let j = c .before .before .before .before .before .lowest .ensures .width in record { fits = omega (arith, j) }
 
 element-copy-out-places : tie.Need-element-copy-out-places Inv-loop μ-loop
-element-copy-out-places c = search needs
+element-copy-out-places c = c .before .before .before .before .before .lowest .ensures .width
 
 mul-places-2 : tie.Need-mul-places-2 Inv-loop μ-loop
-mul-places-2 c = search needs
+mul-places-2 c = let j = c .before .before .before .before .before .before .lowest .ensures .width in record { fits = omega (arith, j) }
 
 element-copy-out-places-2 : tie.Need-element-copy-out-places-2 Inv-loop μ-loop
-element-copy-out-places-2 c = search needs
+element-copy-out-places-2 c = c .before .before .before .before .before .before .lowest .ensures .width
 
 places-requires : tie.Need-places-requires Inv-loop μ-loop
-places-requires c κs = search needs
+places-requires c κs = tt
 
 mul-jobs : tie.Need-mul-jobs Inv-loop μ-loop
 mul-jobs c = record { fits = omega (arith, depth-room (c .before .before .before .before .before .before .before .before .before .before .before .before)) }
@@ -276,7 +275,7 @@ loop-again-2 : tie.Need-loop-again-2 Inv-loop μ-loop
 loop-again-2 c =
     let t = c .before .before in
     let e = t .before .before .before in
-    let ends : SFits w32 (e .sum .result) = search needs in
+    let ends : SFits w32 (e .sum .result) = record { sfits = e .sum .ok } in
     rw (c .without2 .ensures, e .before .before .before .before .without .ensures) (simp (toZ-ofZ, ends) (put-in t (c .before .if4 .taken)))
 
 loop-less-3 : tie.Need-loop-less-3 Inv-loop μ-loop

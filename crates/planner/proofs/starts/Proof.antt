@@ -113,7 +113,7 @@ returns c =
     let l = c .before .loop in
     let end = c .loop-test .left in
     let all : l .k ≡ c .before .before .args .count = omega (arith, l .inv .0, end) in
-    l .inv .1 .list ∙ ap (λ (n : ℕ). startList (view (c .before .before .args .t1)) (stack (at (c .before .before .args .t1) (c .before .before .args .t2)) n)) all
+    l .inv .1 .list ∙ ap (λ (n : ℕ). startList (view (c .before .before .args .t1)) (stack (at (c .before .before .args .t2)) n)) all
 
 pub starts-spec : {M : Type 1} → statement M
 starts-spec =
