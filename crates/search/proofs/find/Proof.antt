@@ -2,6 +2,7 @@
 -- to infer there; the rows and the pairs that are left are words, which get smaller. Assumes nothing.
 use mathlib.Core.Path.{_≡_, refl, ap, _∙_, subst, subst⁻¹}
 use Prim.Native.Nat.{ℕ}
+use native.Mathlib.Omega.{arith}
 use lib.ListN.{getD}
 use mir.Syntax.{w32}
 use mir.Val.{toZ, ofZ}
@@ -76,16 +77,16 @@ without-requires : tie.Need-without-requires Inv-loop μ-loop Inv-pairs μ-pairs
 without-requires c κs = search needs
 
 mul-after : tie.Need-mul-after Inv-loop μ-loop Inv-pairs μ-pairs
-mul-after c = search needs
+mul-after c = let index = c .before .lowest .ensures .width in record { fits = omega (arith, index) }
 
 element-copy-out-after : tie.Need-element-copy-out-after Inv-loop μ-loop Inv-pairs μ-pairs
-element-copy-out-after c = search needs
+element-copy-out-after c = c .before .lowest .ensures .width
 
 mul-before : tie.Need-mul-before Inv-loop μ-loop Inv-pairs μ-pairs
-mul-before c = search needs
+mul-before c = let index = c .before .before .lowest .ensures .width in record { fits = omega (arith, index) }
 
 element-copy-out-before : tie.Need-element-copy-out-before Inv-loop μ-loop Inv-pairs μ-pairs
-element-copy-out-before c = search needs
+element-copy-out-before c = c .before .before .lowest .ensures .width
 
 at-job-requires : tie.Need-at-job-requires Inv-loop μ-loop Inv-pairs μ-pairs
 at-job-requires c κs =
@@ -101,16 +102,16 @@ enum-told : tie.Need-enum-told Inv-loop μ-loop Inv-pairs μ-pairs
 enum-told c = search needs
 
 mul-sum : tie.Need-mul-sum Inv-loop μ-loop Inv-pairs μ-pairs
-mul-sum c = search needs
+mul-sum c = let index = c .before .before .before .before .before .before .before .before .before .before .lowest .ensures .width in record { fits = omega (arith, index) }
 
 element-copy-out-sum : tie.Need-element-copy-out-sum Inv-loop μ-loop Inv-pairs μ-pairs
-element-copy-out-sum c = search needs
+element-copy-out-sum c = c .before .before .before .before .before .before .before .before .before .before .lowest .ensures .width
 
 mul-sum-2 : tie.Need-mul-sum-2 Inv-loop μ-loop Inv-pairs μ-pairs
-mul-sum-2 c = search needs
+mul-sum-2 c = let index = c .before .before .before .before .before .before .before .before .before .before .before .lowest .ensures .width in record { fits = omega (arith, index) }
 
 element-copy-out-sum-2 : tie.Need-element-copy-out-sum-2 Inv-loop μ-loop Inv-pairs μ-pairs
-element-copy-out-sum-2 c = search needs
+element-copy-out-sum-2 c = c .before .before .before .before .before .before .before .before .before .before .before .lowest .ensures .width
 
 sum-requires : tie.Need-sum-requires Inv-loop μ-loop Inv-pairs μ-pairs
 sum-requires c κs =
@@ -177,16 +178,16 @@ without-requires-2 : tie.Need-without-requires-2 Inv-loop μ-loop Inv-pairs μ-p
 without-requires-2 c κs = search needs
 
 mul-is-late : tie.Need-mul-is-late Inv-loop μ-loop Inv-pairs μ-pairs
-mul-is-late c = search needs
+mul-is-late c = let index = c .before .lowest2 .ensures .width in record { fits = omega (arith, index) }
 
 element-copy-out-is-late : tie.Need-element-copy-out-is-late Inv-loop μ-loop Inv-pairs μ-pairs
-element-copy-out-is-late c = search needs
+element-copy-out-is-late c = c .before .lowest2 .ensures .width
 
 mul-is-late-2 : tie.Need-mul-is-late-2 Inv-loop μ-loop Inv-pairs μ-pairs
-mul-is-late-2 c = search needs
+mul-is-late-2 c = let index = c .before .before .lowest2 .ensures .width in record { fits = omega (arith, index) }
 
 element-copy-out-is-late-2 : tie.Need-element-copy-out-is-late-2 Inv-loop μ-loop Inv-pairs μ-pairs
-element-copy-out-is-late-2 c = search needs
+element-copy-out-is-late-2 c = c .before .before .lowest2 .ensures .width
 
 is-late-requires : tie.Need-is-late-requires Inv-loop μ-loop Inv-pairs μ-pairs
 is-late-requires c κs =
@@ -201,10 +202,10 @@ is-late-requires c κs =
     )
 
 mul-at-pair : tie.Need-mul-at-pair Inv-loop μ-loop Inv-pairs μ-pairs
-mul-at-pair c = search needs
+mul-at-pair c = let index = c .before .before .before .before .lowest2 .ensures .width in record { fits = omega (arith, index) }
 
 element-copy-out-at-pair : tie.Need-element-copy-out-at-pair Inv-loop μ-loop Inv-pairs μ-pairs
-element-copy-out-at-pair c = search needs
+element-copy-out-at-pair c = c .before .before .before .before .lowest2 .ensures .width
 
 at-pair-requires : tie.Need-at-pair-requires Inv-loop μ-loop Inv-pairs μ-pairs
 at-pair-requires c κs =
