@@ -2,7 +2,7 @@
 // shows".
 use board::Board;
 use limits::within_limits;
-use search::Found;
+use rules::Found;
 use search::find;
 ghost use mathlib.Core.Path.{_≡_};
 ghost use Rattle.closure.specs.Check as check;

@@ -1,6 +1,6 @@
 // The closure: the rules applied until nothing is left to infer, or a mark would have to change.
 use board::Board;
-use search::Found;
+use rules::Found;
 use search::find;
 use updates::Outcome;
 ghost use mathlib.Core.Path.{_≡_};

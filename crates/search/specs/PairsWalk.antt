@@ -19,9 +19,9 @@ use Rattle.board.specs.Tests.Live.{live, valid}
 use Rattle.board.specs.Tests.Ranges.{after-fits, before-fits}
 use Rattle.board.specs.Tests.Decides.{Decides, retested, _and_, negated, holds, eq, live-is, valid-is}
 use Rattle.board.specs.Inference.Infers.{Obeys}
-use Rattle.search.specs.JobSearched.{JobRead}
-use Rattle.search.specs.PairSearched.{PairRead}
-use Rattle.search.specs.Searched.{JobObeys, PairObeys, RowObeys, joined-obeys, rows-obey}
+use Rattle.rules.specs.JobSearched.{JobRead}
+use Rattle.rules.specs.PairSearched.{PairRead}
+use Rattle.rules.specs.Searched.{JobObeys, PairObeys, RowObeys, joined-obeys, rows-obey}
 
 -- the jobs to pair with i: a pair with an arc to i alone needs no search
 abbrev pub paired : ℕ → ℕ → ℕ → ℕ → ℕ

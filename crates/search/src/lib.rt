@@ -1,27 +1,19 @@
 // "for every ordered pair of two live jobs": the first inference that the board doesn't show yet, if any.
-use crate::job::at_job;
-use crate::pair::at_pair;
-use crate::pair::is_late;
 use board::Board;
-use board::facts::Fact;
 use limits::marked::live;
 use limits::marked::marked;
+use rules::Found;
+use rules::job::at_job;
+use rules::pair::at_pair;
+use rules::pair::is_late;
 ghost use mathlib.Core.Path.{_≡_};
 ghost use Prim.Native.Nat.{_<_};
 ghost use Rattle.board.specs.Paper.View.{view};
 ghost use Rattle.board.specs.Paper.Limits.{jobLimit, Within};
 ghost use Rattle.board.specs.Inference.Infers.{Obeys};
-ghost use Rattle.search.specs.Searched.{Searched};
-ghost use Rattle.search.specs.Values.{inferredOf};
+ghost use Rattle.rules.specs.Searched.{Searched};
+ghost use Rattle.rules.specs.Values.{inferredOf};
 ghost use Rattle.search.specs.PairsWalk.{paired};
-
-mod job;
-mod pair;
-
-pub enum Found {
-    Nothing,
-    Inferred(Fact),
-}
 
 // The jobs to pair with i: a pair with an arc to i alone needs no search.
 fn partners(i: usize, live: u64, before: u64, after: u64) -> u64

@@ -13,12 +13,12 @@ use Rattle.board.specs.Paper.Limits.{jobLimit}
 use Rattle.board.specs.Paper.View.{view, early, late}
 use Rattle.board.specs.Tests.Live.{live, valid}
 use Rattle.board.specs.Tests.Ranges.{ranges, time-moderate, length-moderate, end-moderate}
-use Rattle.search.specs.declared.Found.the-variants.{Nothing}
-use Rattle.search.specs.Values.{inferredOf}
+use Rattle.rules.specs.declared.Found.the-variants.{Nothing}
+use Rattle.rules.specs.Values.{inferredOf}
 use Rattle.limits.specs.Marked.{bit-valid, bit-live}
 use Rattle.energy.specs.Laws.{time-fits, length-fits}
 use Rattle.energy.specs.Exact.{times-within, lengths-within}
-use Rattle.search.specs.Searched.{Searched, PairObeys}
+use Rattle.rules.specs.Searched.{Searched, PairObeys}
 use Rattle.search.specs.PairsWalk.{RowsLeft, PairsLeft, InRow, rows-left, pairs-left, job-read, pair-read, rows-done, row-done}
 use borrow.Author.Needs.{needs}
 use Rattle.search.proofs.find.Statement.{statement}

@@ -2,8 +2,8 @@
 use mathlib.Core.Option.{Option, none, some}
 use Rattle.board.specs.Paper.Facts.{Fact}
 use Rattle.board.specs.Paper.Values.{factOf}
-use Rattle.search.specs.declared.Found.{Found}
-use Rattle.search.specs.declared.Found.the-variants.{Nothing, Inferred}
+use Rattle.rules.specs.declared.Found.{Found}
+use Rattle.rules.specs.declared.Found.the-variants.{Nothing, Inferred}
 
 -- what a search found
 abbrev pub inferredOf : Found → Option Fact

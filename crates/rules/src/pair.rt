@@ -9,8 +9,8 @@ ghost use lib.Signed.{ltZ};
 ghost use Rattle.words.specs.Bit.{bit};
 ghost use Rattle.minutes.specs.Time.{Moderate};
 ghost use Rattle.board.specs.Paper.Limits.{jobLimit};
-ghost use Rattle.search.specs.Values.{inferredOf};
-ghost use Rattle.search.specs.PairSearched.{PairSearched, Unjoined};
+ghost use Rattle.rules.specs.Values.{inferredOf};
+ghost use Rattle.rules.specs.PairSearched.{PairSearched, Unjoined};
 
 // R3: does k, started once i has ended, end too late?
 pub fn is_late(end: i32, length: i32, latest: i32) -> bool

@@ -1,9 +1,9 @@
--- `search::pair::orders` meets its contract: the second test is asked where k would end too late. Assumes nothing.
+-- `rules::pair::orders` meets its contract: the second test is asked where k would end too late. Assumes nothing.
 use mathlib.Core.Path.{ap}
 use mathlib.Core.Bool.{not}
 use borrow.Author.Needs.{needs}
-use Rattle.search.proofs.pair.orders.Statement.{statement}
-use Rattle.search.proofs.pair.orders.Tie as tie
+use Rattle.rules.proofs.pair.orders.Statement.{statement}
+use Rattle.rules.proofs.pair.orders.Tie as tie
 
 has-requires : tie.Need-has-requires
 has-requires c κs = search needs

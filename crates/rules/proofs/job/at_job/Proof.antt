@@ -1,4 +1,4 @@
--- `search::job::at_job` meets its contract: R6 by the window, R4 and R5 by the greatest sums. Assumes nothing.
+-- `rules::job::at_job` meets its contract: R6 by the window, R4 and R5 by the greatest sums. Assumes nothing.
 use mathlib.Core.Path.{_≡_, sym, ap, _∙_}
 use mir.ValLaws.{toZ-ofZ}
 use denote.Ref.{now}
@@ -8,12 +8,12 @@ use Rattle.board.specs.Paper.View.{early, view, rowOf}
 use Rattle.board.specs.Tests.Live.{roomy}
 use Rattle.board.specs.Tests.Ranges.{time-moderate}
 use Rattle.energy.specs.Laws.{time-fits, length-fits, length-moderate}
-use Rattle.search.specs.Values.{inferredOf}
-use Rattle.search.specs.Searched.{Searched}
-use Rattle.search.specs.JobSearched.{SideObeys, JobRead, read-early, read-late, room-is, says-room, says-late}
+use Rattle.rules.specs.Values.{inferredOf}
+use Rattle.rules.specs.Searched.{Searched}
+use Rattle.rules.specs.JobSearched.{SideObeys, JobRead, read-early, read-late, room-is, says-room, says-late}
 use borrow.Author.Needs.{needs}
-use Rattle.search.proofs.job.at_job.Statement.{statement}
-use Rattle.search.proofs.job.at_job.Tie as tie
+use Rattle.rules.proofs.job.at_job.Statement.{statement}
+use Rattle.rules.proofs.job.at_job.Tie as tie
 
 -- from the window's test to the entry, and what the arguments there are read from
 abbrev start-of : tie.After-holds → tie.Start

@@ -1,10 +1,10 @@
--- `search::pair::excludes` meets its contract: the arcs both ways are the intersection of the two sets. Assumes nothing.
+-- `rules::pair::excludes` meets its contract: the arcs both ways are the intersection of the two sets. Assumes nothing.
 use mathlib.Core.Path.{sym, ap, _∙_}
 use Rattle.words.specs.Bit.{bit}
 use Rattle.words.specs.BitLaws.{bit-intersection}
 use borrow.Author.Needs.{needs}
-use Rattle.search.proofs.pair.excludes.Statement.{statement}
-use Rattle.search.proofs.pair.excludes.Tie as tie
+use Rattle.rules.proofs.pair.excludes.Statement.{statement}
+use Rattle.rules.proofs.pair.excludes.Tie as tie
 
 intersection-requires : tie.Need-intersection-requires
 intersection-requires c κs = search needs

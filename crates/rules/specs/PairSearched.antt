@@ -17,7 +17,7 @@ use Rattle.board.specs.Paper.Rules.{E, D, L}
 use Rattle.board.specs.Tests.Live.{valid}
 use Rattle.board.specs.Tests.Decides.{Decides, retested, _and_, negated, holds, eq, valid-is, earlier}
 use Rattle.board.specs.Inference.Infers.{r1, r2, r3}
-use Rattle.search.specs.Searched.{Searched, PairObeys}
+use Rattle.rules.specs.Searched.{Searched, PairObeys}
 
 -- the members of w: jobs after k, which is valid and after i, that are neither i nor after i
 pub record Unjoined (i k valids after onward w : ℕ) : Type 0 where

@@ -1,13 +1,13 @@
--- `search::job::at_side` meets its contract, by the laws of R4 and R5 on one side. Assumes nothing.
+-- `rules::job::at_side` meets its contract, by the laws of R4 and R5 on one side. Assumes nothing.
 use mathlib.Core.Path.{sym, _∙_}
 use mir.ValLaws.{toZ-ofZ}
 use mir.Syntax.{w32}
 use mir.Val.{SFits}
 use Rattle.board.specs.Paper.Values.{sideOf, turned}
-use Rattle.search.specs.JobSearched.{side-none, side-below, side-above}
+use Rattle.rules.specs.JobSearched.{side-none, side-below, side-above}
 use borrow.Author.Needs.{needs}
-use Rattle.search.proofs.job.at_side.Statement.{statement}
-use Rattle.search.proofs.job.at_side.Tie as tie
+use Rattle.rules.proofs.job.at_side.Statement.{statement}
+use Rattle.rules.proofs.job.at_side.Tie as tie
 
 enum-known-bound : tie.Need-enum-known-bound
 enum-known-bound c = search needs

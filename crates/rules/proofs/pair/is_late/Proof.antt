@@ -1,9 +1,9 @@
--- `search::pair::is_late` meets its contract: the sum does not overflow. Assumes nothing.
+-- `rules::pair::is_late` meets its contract: the sum does not overflow. Assumes nothing.
 use mir.ValLaws.{toZ-ofZ}
 use Rattle.minutes.specs.Time.{sum-fits}
 use borrow.Author.Needs.{needs}
-use Rattle.search.proofs.pair.is_late.Statement.{statement}
-use Rattle.search.proofs.pair.is_late.Tie as tie
+use Rattle.rules.proofs.pair.is_late.Statement.{statement}
+use Rattle.rules.proofs.pair.is_late.Tie as tie
 
 sum-requires : tie.Need-sum-requires
 sum-requires c κs = search needs

@@ -10,8 +10,8 @@ ghost use Prim.Native.Nat.{_<_};
 ghost use Rattle.board.specs.Paper.Limits.{jobLimit};
 ghost use Rattle.board.specs.Paper.Values.{sideOf};
 ghost use Rattle.energy.specs.Energy.{boundOf, Times, Lengths};
-ghost use Rattle.search.specs.Values.{inferredOf};
-ghost use Rattle.search.specs.JobSearched.{SideSearched, JobSearched};
+ghost use Rattle.rules.specs.Values.{inferredOf};
+ghost use Rattle.rules.specs.JobSearched.{SideSearched, JobSearched};
 
 // R4 and R5: what the bound that the valid jobs on one side of a job leave infers of its window.
 fn at_side(side: Side, job: usize, window: Window, bound: EnergyBound) -> Found

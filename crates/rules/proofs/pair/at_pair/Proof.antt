@@ -1,9 +1,9 @@
--- `search::pair::at_pair` meets its contract: R2, R3 and R1, each by its own law. Assumes nothing.
+-- `rules::pair::at_pair` meets its contract: R2, R3 and R1, each by its own law. Assumes nothing.
 use mathlib.Core.Path.{sym, _∙_}
-use Rattle.search.specs.PairSearched.{says-exclude, says-order, says-join, says-nothing}
+use Rattle.rules.specs.PairSearched.{says-exclude, says-order, says-join, says-nothing}
 use borrow.Author.Needs.{needs}
-use Rattle.search.proofs.pair.at_pair.Statement.{statement}
-use Rattle.search.proofs.pair.at_pair.Tie as tie
+use Rattle.rules.proofs.pair.at_pair.Statement.{statement}
+use Rattle.rules.proofs.pair.at_pair.Tie as tie
 
 excludes-requires : tie.Need-excludes-requires
 excludes-requires c κs = search needs

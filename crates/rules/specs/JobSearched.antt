@@ -24,7 +24,7 @@ use Rattle.energy.specs.declared.EnergyBound.{EnergyBound}
 use Rattle.energy.specs.Energy.{Sum, Greatest, boundOf}
 use Rattle.energy.specs.Exact.{greatest-beyond}
 use Rattle.energy.specs.SumBeyond.{SumBeyond, sum-pushes, pushing-sum}
-use Rattle.search.specs.Searched.{Searched, JobObeys}
+use Rattle.rules.specs.Searched.{Searched, JobObeys}
 
 -- the view shows what R4 or R5 infers of job j on side s
 abbrev pub SideObeys : View → Side → ℕ → Type 0

@@ -1,11 +1,11 @@
--- `search::pair::unjoined` meets its contract, member by member. Assumes nothing.
+-- `rules::pair::unjoined` meets its contract, member by member. Assumes nothing.
 use mathlib.Core.Path.{sym, ap, _∙_}
 use mathlib.Core.Bool.{not, _&&_}
 use Rattle.words.specs.Bit.{bit}
 use Rattle.words.specs.BitLaws.{bit-zero, bit-intersection, bit-difference, bit-without, without-lt}
 use borrow.Author.Needs.{needs}
-use Rattle.search.proofs.pair.unjoined.Statement.{statement}
-use Rattle.search.proofs.pair.unjoined.Tie as tie
+use Rattle.rules.proofs.pair.unjoined.Statement.{statement}
+use Rattle.rules.proofs.pair.unjoined.Tie as tie
 
 intersection-requires : tie.Need-intersection-requires
 intersection-requires c κs = search needs

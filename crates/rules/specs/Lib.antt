@@ -1,0 +1,5 @@
+-- What a search says, as a whole, at one job and at one pair of jobs.
+pub mod Searched
+pub mod Values
+pub mod JobSearched
+pub mod PairSearched
