@@ -16,9 +16,9 @@ use Rattle.board.specs.Tests.Live.{roomy}
 use Rattle.board.specs.Tests.Decides.{Decides}
 use Rattle.board.specs.Paper.Facts.{Fact, is-bound, is-invalid}
 use Rattle.board.specs.Paper.Rules.{energy}
-use Rattle.updates.specs.declared.window.Window.{Window}
-use Rattle.updates.specs.Windows.{edge, windowOf}
-use Rattle.updates.specs.WindowLaws.{edge-bound}
+use Rattle.windows.specs.declared.Window.{Window}
+use Rattle.windows.specs.Windows.{edge, windowOf}
+use Rattle.windows.specs.WindowLaws.{edge-bound}
 use Rattle.board.specs.Inference.Infers.{Pushing, Infers, r45, r6}
 use Rattle.energy.specs.declared.EnergyBound.{EnergyBound}
 use Rattle.energy.specs.Energy.{Sum, Greatest, boundOf}

@@ -5,7 +5,7 @@ use board::facts::Fact;
 use board::facts::Side;
 use energy::EnergyBound;
 use energy::energy_bound;
-use updates::window::Window;
+use windows::Window;
 ghost use Prim.Native.Nat.{_<_};
 ghost use Rattle.board.specs.Paper.Limits.{jobLimit};
 ghost use Rattle.board.specs.Paper.Values.{sideOf};

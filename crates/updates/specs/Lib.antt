@@ -1,5 +1,3 @@
 -- Updates of a board by one fact, as code: the definitions stand in the crate board.
 pub mod Outcome
-pub mod Windows
-pub mod WindowLaws
 pub mod Applicable

@@ -1,9 +1,9 @@
 // Updates: the least board above this one where one more fact holds, or none where a mark would have to change. Entries and
 // rules go through the same ones.
-use crate::window::Window;
 use board::Board;
 use board::facts::Fact;
 use board::facts::Side;
+use windows::Window;
 ghost use mathlib.Core.Path.{_≡_};
 ghost use mathlib.Core.Option.{some};
 ghost use Prim.Native.Nat.{_<_};
@@ -15,10 +15,8 @@ ghost use Rattle.board.specs.Paper.Values.{sideOf, turned, factOf};
 ghost use Rattle.updates.specs.Outcome.{outcomeOf};
 ghost use Rattle.board.specs.Tests.Live.{live};
 ghost use Rattle.board.specs.Update.Updates as updates;
-ghost use Rattle.updates.specs.Windows.{windowOf, moved};
+ghost use Rattle.windows.specs.Windows.{windowOf, moved};
 ghost use Rattle.updates.specs.Applicable.{Applicable};
-
-pub mod window;
 
 // The board after a step, or a contradiction, where `possible` is false and the board of no account.
 pub struct Outcome {

@@ -9,8 +9,8 @@ use Rattle.board.specs.Paper.View.{rowOf, bound}
 use Rattle.board.specs.Paper.Values.{sideOf, turned}
 use Rattle.board.specs.Tests.Ranges.{ranges, time-moderate, length-moderate}
 use Rattle.board.specs.Update.Updates.{tighten, update}
-use Rattle.updates.specs.Windows.{bounded, windowOf, moved}
-use Rattle.updates.specs.WindowLaws.{edge-bound, moved-raised, bounded-moderate}
+use Rattle.windows.specs.Windows.{bounded, windowOf, moved}
+use Rattle.windows.specs.WindowLaws.{edge-bound, moved-raised, bounded-moderate}
 use Rattle.updates.proofs.bound.Statement.{statement}
 use Rattle.updates.proofs.bound.Tie as tie
 

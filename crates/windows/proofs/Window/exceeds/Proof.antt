@@ -1,9 +1,9 @@
--- `updates::window::Window::exceeds` meets its contract: each arm compares the times that the machine reads back from their bits,
+-- `windows::Window::exceeds` meets its contract: each arm compares the times that the machine reads back from their bits,
 -- and the late side turns the order. Assumes nothing.
 use borrow.Author.Needs.{needs}
-use Rattle.updates.specs.WindowLaws.{turned-test}
-use Rattle.updates.proofs.window.Window.exceeds.Statement.{statement}
-use Rattle.updates.proofs.window.Window.exceeds.Tie as tie
+use Rattle.windows.specs.WindowLaws.{turned-test}
+use Rattle.windows.proofs.Window.exceeds.Statement.{statement}
+use Rattle.windows.proofs.Window.exceeds.Tie as tie
 
 enum-told : tie.Need-enum-told
 enum-told c = search needs

@@ -1,7 +1,7 @@
--- `updates::window::Window::bounded` meets its contract, arm by arm. Assumes nothing.
+-- `windows::Window::bounded` meets its contract, arm by arm. Assumes nothing.
 use borrow.Author.Needs.{needs}
-use Rattle.updates.proofs.window.Window.bounded.Statement.{statement}
-use Rattle.updates.proofs.window.Window.bounded.Tie as tie
+use Rattle.windows.proofs.Window.bounded.Statement.{statement}
+use Rattle.windows.proofs.Window.bounded.Tie as tie
 
 enum-told : tie.Need-enum-told
 enum-told c = search needs

@@ -1,11 +1,11 @@
--- `updates::window::Window::holds` meets its contract: the machine compares the sum as it reads it back from its bits.
+-- `windows::Window::holds` meets its contract: the machine compares the sum as it reads it back from its bits.
 -- Assumes nothing.
 use borrow.Author.Needs.{needs}
 use mir.Syntax.{w32}
 use mir.Val.{SFits}
 use mir.ValLaws.{toZ-ofZ}
-use Rattle.updates.proofs.window.Window.holds.Statement.{statement}
-use Rattle.updates.proofs.window.Window.holds.Tie as tie
+use Rattle.windows.proofs.Window.holds.Statement.{statement}
+use Rattle.windows.proofs.Window.holds.Tie as tie
 
 sum-requires : tie.Need-sum-requires
 sum-requires c κs = search needs

@@ -5,7 +5,7 @@ ghost use lib.IntN.{_+ℤ_};
 ghost use lib.Signed.{leZ, ltZ};
 ghost use Rattle.minutes.specs.Time.{Moderate};
 ghost use Rattle.board.specs.Paper.Values.{sideOf, turned};
-ghost use Rattle.updates.specs.Windows as windows;
+ghost use Rattle.windows.specs.Windows as windows;
 
 pub struct Window {
     pub earliest: i32,

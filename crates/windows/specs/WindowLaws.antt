@@ -5,11 +5,11 @@ use lib.Signed.{ltZ}
 use Rattle.minutes.specs.Bools.{same-tests}
 use Rattle.minutes.specs.Linear.{whole, minus}
 use Rattle.minutes.specs.Time.{Moderate}
-use Rattle.updates.specs.declared.window.Window.{Window}
+use Rattle.windows.specs.declared.Window.{Window}
 use Rattle.board.specs.Paper.View.{Row, Side, early, late, bound}
 use Rattle.board.specs.Paper.Values.{turned}
 use Rattle.board.specs.Update.Updates.{raised}
-use Rattle.updates.specs.Windows.{edge, bounded, windowOf, moved}
+use Rattle.windows.specs.Windows.{edge, bounded, windowOf, moved}
 
 -- the late side turns the order
 pub turned-test : (a b : ℤ) → ltZ (negℤ a) (negℤ b) ≡ ltZ b a

@@ -1,6 +1,6 @@
 -- A job's window by itself, as the code carries it.
 use lib.IntN.{ℤ, negℤ}
-use Rattle.updates.specs.declared.window.Window.{Window}
+use Rattle.windows.specs.declared.Window.{Window}
 use Rattle.board.specs.Paper.View.{Row, Side, early, late}
 
 -- the window's bound on one side

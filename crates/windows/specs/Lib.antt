@@ -1,0 +1,3 @@
+-- A job's window, and how its edges are the bounds of a row.
+pub mod Windows
+pub mod WindowLaws
