@@ -71,12 +71,6 @@ fn rows(boards: Boards) {
     }
 }
 
-fn tally(tally: u32) {
-    writing::text(b"(tally ");
-    writing::natural(tally as u64);
-    writing::text(b")\n");
-}
-
 fn main() {
     let empty = Board::empty();
     let boards = sequence(Boards {
@@ -85,6 +79,6 @@ fn main() {
         lent: true,
     });
     rows(boards);
-    tally(boards.first.tally);
-    tally(boards.second.tally);
+    writing::tally(boards.first.tally);
+    writing::tally(boards.second.tally);
 }

@@ -1,5 +1,6 @@
 -- When a time, the sum of two or their difference fits an i32, and the greater and the lesser of two times.
-use mathlib.Core.Bool.{cond}
+use mathlib.Core.Path.{_≡_}
+use mathlib.Core.Bool.{false, cond}
 use lib.IntN.{ℤ, pos, negsuc, negℤ, _+ℤ_, _-ℤ_}
 use lib.Signed.{ltZ, _≤ℤ_}
 use mir.Syntax.{w32}
@@ -32,6 +33,9 @@ greater-left a b = by-test (λ x. a ≤ℤ x) (ltZ a b) b a (λ e. omega whole) 
 
 pub greater-right : (a b : ℤ) → b ≤ℤ greater a b
 greater-right a b = by-test (λ x. b ≤ℤ x) (ltZ a b) b a (λ e. omega whole) (λ e. omega whole)
+
+pub greater-first : (a b : ℤ) → b ≤ℤ a → greater a b ≡ a
+greater-first a b l = let e : ltZ a b ≡ false = omega whole in rw e
 
 pub lesser-left : (a b : ℤ) → lesser a b ≤ℤ a
 lesser-left a b = by-test (λ x. x ≤ℤ a) (ltZ a b) a b (λ e. omega whole) (λ e. omega whole)

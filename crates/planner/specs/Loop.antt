@@ -1,17 +1,16 @@
 -- What the planner's loop keeps: the jobs placed with what each placing left behind, the set that waits, when the dock is free, and
 -- what the tries made so far and those left come to. Each move keeps it.
 use mathlib.Core.Path.{_≡_, refl, sym}
-use mathlib.Core.Bool.{true, false, _&&_}
+use mathlib.Core.Bool.{true, _&&_}
 use lib.Dec.{eqb}
 use mathlib.Core.List.{List, [], _∷_}
 use Prim.Native.Nat.{ℕ, _+_, _<_, _≤_}
 use lib.IntN.{ℤ, pos, _+ℤ_}
 use lib.ListN.{length, getD}
-use lib.Signed.{leZ, ltZ, _≤ℤ_}
+use lib.Signed.{leZ}
 use Rattle.words.specs.Bit.{bit, intersection}
-use Rattle.minutes.specs.Bools.{by-test}
 use Rattle.minutes.specs.Linear.{whole, plus}
-use Rattle.minutes.specs.Time.{greater, greater-left}
+use Rattle.minutes.specs.Time.{greater, greater-left, greater-first}
 use Rattle.board.specs.declared.Board.{Board}
 use Rattle.board.specs.Paper.View.{view}
 use Rattle.board.specs.Paper.Limits.{Within, IsTime, firstMinute, jobLimit}
@@ -29,13 +28,6 @@ at l d = getD l d 0
 
 abbrev pub timeAt : List ℤ → ℕ → ℤ
 timeAt l d = getD l d (pos 0)
-
--- "the later of E and the end of the job placed before": E where that is no earlier, and a time
-no-later : (a c : ℤ) → c ≤ℤ a → greater a c ≡ a
-no-later a c l = let e : ltZ a c ≡ false = omega whole in rw e
-
-pub greater-time : {a c : ℤ} → IsTime a → IsTime c → IsTime (greater a c)
-greater-time {a} {c} s t = by-test IsTime (ltZ a c) c a (λ e. t) (λ e. s)
 
 module _ (b : Board) where
   -- The dock is free from a minute on, after the jobs ps: "the later of E and the end of the job placed before, or E where none
@@ -90,7 +82,7 @@ module _ (b : Board) where
     free-at-first =
         record {
           time = record { low = omega whole; high = omega whole };
-          start = λ j. sym (no-later (E (view b) j) firstMinute (ranges b h j .earliest .low));
+          start = λ j. sym (greater-first (E (view b) j) firstMinute (ranges b h j .earliest .low));
         }
 
     -- after one that ends in time

@@ -8,39 +8,25 @@ use Prim.Native.Nat.{ℕ, zero, suc, _+_, _<_, _≤_}
 use native.Mathlib.Omega.{arith}
 use lib.IntN.{ℤ}
 use lib.ListN.{length}
-use borrow.Author.Tests.{le-leb, lt-leb}
 use lib.Count.{trailingZeros}
 use Rattle.words.specs.Bit.{bit, without, width}
 use Rattle.words.specs.BitLaws.{bit-zero, bit-ext}
 use Rattle.words.specs.Walk.{trailing-lowest}
 use Rattle.minutes.specs.Bools.{is-true, refuted, same-tests}
 use Rattle.board.specs.declared.Board.{Board}
-use Rattle.board.specs.Paper.View.{View, view}
+use Rattle.board.specs.Paper.View.{view}
 use Rattle.board.specs.Paper.Limits.{Within, jobLimit}
 use Rattle.board.specs.Tests.Live.{valid}
 use Rattle.tries.specs.declared.PlanAnswer.the-variants as Answers
 use Rattle.tries.specs.Paper.Lists.{among, range}
-use Rattle.tries.specs.Paper.Tries.{Outcome, found, none, add}
-use Rattle.tries.specs.Paper.Planner.{placedWord, startList, unplanned, withPlan, answer}
+use Rattle.tries.specs.Paper.Tries.{none, add}
+use Rattle.tries.specs.Paper.Planner.{placedWord, startList, unplanned, answer}
 use Rattle.tries.specs.ListLaws.{none-among, kept-at-most, range-length}
-use Rattle.tries.specs.PlanLaws.{placed-bit}
+use Rattle.tries.specs.PlanLaws.{placed-bit, found-in-budget, none-in-budget, beyond-budget}
 use Rattle.tries.specs.Reached.{last-and-before}
 use Rattle.planner.specs.Rest.{stack, members, back, tried-all, try-due, all-found}
 use Rattle.planner.specs.Waiting.{order, waiting-fits, waitingCount, waiting-members, no-members, some-waits, least-first}
 use Rattle.planner.specs.Loop.{at, Placements, outcome, State}
-
--- the answer with a budget that is enough, and with one that is not
-module _ (v : View) (budget t : ℕ) where
-  found-in-budget : (ps : List ℕ) → t ≤ budget → answer v budget (found t ps) ≡ withPlan v (Answers.Found t) ps
-  found-in-budget ps l = rw (le-leb t budget l)
-
-  none-in-budget : t ≤ budget → answer v budget (none t) ≡ unplanned (Answers.None t)
-  none-in-budget l = rw (le-leb t budget l)
-
-beyond-budget : (v : View) (budget : ℕ) (o : Outcome) → answer v budget (add (budget + 1) o) ≡ unplanned (Answers.Spent budget)
-unfolding add
-beyond-budget v budget (found u ps) = rw (lt-leb (budget + 1 + u) budget (omega arith))
-beyond-budget v budget (none u) = rw (lt-leb (budget + 1 + u) budget (omega arith))
 
 -- the jobs of the stack are valid
 stacked : (b : Board) (jobs lefts : List ℕ) (frees : List ℤ) (depth : ℕ) → Placements b jobs lefts frees depth

@@ -4,14 +4,14 @@ use mathlib.Core.Path.{_≡_, sym, _∙_}
 use mathlib.Core.Bool.{true, false, _&&_, or-comm}
 use mathlib.Core.List.{List, [], _∷_}
 use mathlib.Core.Option.{none}
-use Prim.Native.Nat.{ℕ, _<_}
+use Prim.Native.Nat.{ℕ, _+_, _<_, _≤_}
 use native.Mathlib.Decide.{ℕ-discrete, decLt}
 use native.Mathlib.Omega.{arith}
 use lib.Dec.{eqb, ltb}
 use lib.IntN.{ℤ, pos}
 use lib.ListN.{length, getD, replicate, length-set, length-replicate, getD-replicate}
 use lib.Seq.{getD-set-same, getD-set-other}
-use borrow.Author.Tests.{lt-ltb, not-false}
+use borrow.Author.Tests.{lt-ltb, le-leb, lt-leb, not-false}
 use Rattle.words.specs.Bit.{bit}
 use Rattle.words.specs.BitLaws.{bit-zero, bit-with}
 use Rattle.minutes.specs.Bools.{and-parts, and-both, same-tests}
@@ -29,7 +29,8 @@ use Rattle.entries.specs.Lines.{no-line, met, unmet, passed}
 use Rattle.tries.specs.declared.PlanAnswer.{PlanAnswer}
 use Rattle.tries.specs.declared.PlanAnswer.the-variants as Answers
 use Rattle.tries.specs.Paper.Lists.{range, among}
-use Rattle.tries.specs.Paper.Tries.{startAfter, tries}
+use Rattle.tries.specs.Paper.Tries as Tries
+use Rattle.tries.specs.Paper.Tries.{Outcome, found, add, startAfter, tries}
 use Rattle.tries.specs.Paper.Planner.{validJobs, placedWord, startList, unplanned, withPlan, answer, plan}
 use Rattle.tries.specs.Paper.Answers.{placingOf}
 use Rattle.tries.specs.Paper.Exact.{IsBudget}
@@ -85,6 +86,19 @@ module _ (v : View) where
   plan-placing a ps small i = record { placed = λ k. sym (placed-bit ps k) i; start = λ k. sym (start-read ps small k) i }
 
 -- ---- the answer
+
+-- the answer with a budget that is enough, and with one that is not
+module _ (v : View) (budget t : ℕ) where
+  pub found-in-budget : (ps : List ℕ) → t ≤ budget → answer v budget (found t ps) ≡ withPlan v (Answers.Found t) ps
+  found-in-budget ps l = rw (le-leb t budget l)
+
+  pub none-in-budget : t ≤ budget → answer v budget (Tries.none t) ≡ unplanned (Answers.None t)
+  none-in-budget l = rw (le-leb t budget l)
+
+pub beyond-budget : (v : View) (budget : ℕ) (o : Outcome) → answer v budget (add (budget + 1) o) ≡ unplanned (Answers.Spent budget)
+unfolding add
+beyond-budget v budget (found u ps) = rw (lt-leb (budget + 1 + u) budget (omega arith))
+beyond-budget v budget (Tries.none u) = rw (lt-leb (budget + 1 + u) budget (omega arith))
 
 -- a budget that the gate lets pass
 pub budget-within : (z : ℤ) → gate (budgetCheck z ∷ []) ≡ none → IsBudget z

@@ -143,3 +143,9 @@ pub fn plan(p: Planned) {
         PlanAnswer::Refused(r) => refusal(r),
     }
 }
+
+pub fn tally(tally: u32) {
+    text(b"(tally ");
+    natural(tally as u64);
+    text(b")\n");
+}

@@ -4,13 +4,13 @@ use mathlib.Core.Path.{_≡_, ap}
 use Prim.Native.Nat.{ℕ, _<_, _≤_, _^_}
 use native.Mathlib.Decide.{ℕ-discrete, decLt}
 use native.Mathlib.Omega.{arith}
-use lib.IntN.{pos, _+ℤ_}
+use lib.IntN.{ℤ, pos, _+ℤ_}
 use lib.ListN.{getD}
-use lib.Signed.{_≤ℤ_}
+use lib.Signed.{ltZ, _≤ℤ_}
 use Rattle.words.specs.BitLaws.{bits-bound}
-use Rattle.minutes.specs.Bools.{is-false}
+use Rattle.minutes.specs.Bools.{is-false, by-test}
 use Rattle.minutes.specs.Linear.{whole, plus}
-use Rattle.minutes.specs.Time.{Moderate}
+use Rattle.minutes.specs.Time.{Moderate, greater}
 use Rattle.board.specs.declared.Board.{Board}
 use Rattle.board.specs.Paper.View.{Row, rowOf}
 use Rattle.board.specs.Paper.Limits.{Within, IsTime, RowLimits, zeroRow, jobLimit, longest}
@@ -66,6 +66,9 @@ module _ (b : Board) (h : Within b) where
   before-fits k = bits-bound jobLimit (getD (b .before) k 0) λ m l. is-false _ λ e.
       let arc = rw (h .twice m k) at e in
       omega (arith, h .limits .arcs m k arc .0 .0, h .limits .jobs)
+
+pub greater-time : {a c : ℤ} → IsTime a → IsTime c → IsTime (greater a c)
+greater-time {a} {c} s t = by-test IsTime (ltZ a c) c a (λ e. t) (λ e. s)
 
 -- a time or a length is far from the ends of an i32
 pub time-moderate : {z : _} → IsTime z → Moderate z

@@ -14,14 +14,14 @@ use Rattle.board.specs.Paper.Limits.{IsTime}
 use Rattle.board.specs.Paper.Rules.{E, L}
 use Rattle.board.specs.Paper.View.{view}
 use Rattle.board.specs.Tests.Live.{valid-yes}
-use Rattle.board.specs.Tests.Ranges.{ranges, time-moderate, length-moderate}
+use Rattle.board.specs.Tests.Ranges.{ranges, greater-time, time-moderate, length-moderate}
 use Rattle.energy.specs.Exact.{lengths-within}
 use Rattle.energy.specs.Laws.{time-fits, length-fits}
 use Rattle.limits.specs.Marked.{bit-valid}
 use Rattle.tries.specs.Paper.Tries.{startAfter, ready, inTime}
 use Rattle.planner.specs.Rest.{stack}
 use Rattle.planner.specs.Waiting.{order}
-use Rattle.planner.specs.Loop.{at, State, greater-time, try-test}
+use Rattle.planner.specs.Loop.{at, State, try-test}
 use Rattle.planner.specs.Moves.{at-start, taken-back, tried-in-vain, job-placed}
 use Rattle.planner.specs.Results.{deep, room, exhausted, overspent, all-are-placed}
 use Rattle.planner.proofs.search.Statement.{statement}

@@ -12,12 +12,12 @@ use Rattle.board.specs.Paper.Limits.{IsTime}
 use Rattle.board.specs.Paper.Rules.{E}
 use Rattle.board.specs.Paper.View.{view}
 use Rattle.board.specs.Tests.Live.{valid-yes}
-use Rattle.board.specs.Tests.Ranges.{ranges, time-moderate, length-moderate}
+use Rattle.board.specs.Tests.Ranges.{ranges, greater-time, time-moderate, length-moderate}
 use Rattle.energy.specs.Exact.{lengths-within}
 use Rattle.energy.specs.Laws.{time-fits, length-fits}
 use Rattle.tries.specs.Paper.Planner.{startList}
 use Rattle.planner.specs.Rest.{stack}
-use Rattle.planner.specs.Loop.{at, greater-time}
+use Rattle.planner.specs.Loop.{at}
 use Rattle.planner.specs.Starts.{Listed, none-listed, next-listed}
 use Rattle.planner.proofs.starts.Statement.{statement}
 use Rattle.planner.proofs.starts.Tie as tie
