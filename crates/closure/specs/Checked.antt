@@ -3,14 +3,16 @@ use mathlib.Core.Path.{_≡_, refl}
 use mathlib.Core.Logic.{_↔_}
 use mathlib.Core.Bool.{true}
 use mathlib.Core.Option.{Option, none, some}
+use Prim.Native.Nat.{ℕ, _≤_}
 use Rattle.minutes.specs.Bools.{refuted, and-parts, and-both}
 use Rattle.board.specs.declared.Board.{Board}
 use Rattle.board.specs.Paper.View.{view}
 use Rattle.board.specs.Paper.Facts.{Fact}
 use Rattle.board.specs.Inference.Infers.{Obeys}
-use Rattle.board.specs.Paper.Limits.{Within}
+use Rattle.board.specs.Paper.Limits.{tallyLimit, Within, emptyBoard}
 use Rattle.board.specs.Tests.Limits.{withinLimits}
 use Rattle.board.specs.Tests.LimitsDecided.{limits-yes, limits-show}
+use Rattle.board.specs.Tests.Empty.{within-empty, empty-obeys}
 use Rattle.board.specs.Paper.Entries.{shown}
 use Rattle.board.specs.Paper.Closed.{Closed, Least}
 use Rattle.board.specs.Order.Leastness.{handed-in}
@@ -52,3 +54,6 @@ module _ (b : Board) where
 
   pub passes-closed : (passes b ≡ true) ↔ Closed (shown (view b)) b
   passes-closed = (λ e. passes-least e .closed, λ c. obeys-passes (c .within) (rules-obey (view b) (c .rules)))
+
+pub empty-passes : (t : ℕ) → t ≤ tallyLimit → passes (emptyBoard t) ≡ true
+empty-passes t h = obeys-passes (emptyBoard t) (within-empty t h) (empty-obeys (view (emptyBoard t)) refl)

@@ -22,7 +22,7 @@ use Rattle.entries.specs.Paper.Gate.{checks, gate}
 use Rattle.entries.specs.Paper.Enter.{counted, enter}
 use Rattle.entries.specs.Paper.Answers.{no-number, replyOf}
 use Rattle.entries.specs.Paper.Exact.{Outcome, by-table, impossible, accepted}
-use Rattle.entries.specs.Answered.{by-table-low, not-refused}
+use Rattle.entries.specs.Answered.{by-table-middle, not-refused}
 use Rattle.entries.specs.Stepped.{enter-checked, enter-refused}
 
 -- whatever the entries are that the board shows
@@ -49,7 +49,7 @@ refused-board b e r q = go (passes b) refl
     other s n a = let is : s ≡ r = cc in subst (λ x. b ≡ afterRefusal x b) is (rw (ne-eqb (numberOf s) 8 n))
 
     ends : (x : Entered) → Outcome (shown (view b)) b e x → x .answer ≡ Answers.Refused r → x .board ≡ afterRefusal r b
-    ends _ (by-table s g) a = other s (omega (arith, by-table-low (b .jobs) e s g)) a
+    ends _ (by-table s g) a = other s (omega (arith, by-table-middle (b .jobs) e s g)) a
     ends _ (impossible g k) a = let is : Refused.Impossible ≡ r = cc in subst (λ x. counted b ≡ afterRefusal x b) is refl
     ends _ (accepted g c l t) a = absurd (not-refused (b .jobs) e (numberOf r) (ap replyOf a))
 

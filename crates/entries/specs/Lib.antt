@@ -11,6 +11,7 @@ pub mod Settles
 pub mod Reached
 pub mod Answered
 pub mod Stepped
+pub mod Later
 pub mod Played
 -- what follows: the order of entries does not matter, 8 exactly when, and entries without effect
 pub mod Orderless

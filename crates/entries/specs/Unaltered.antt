@@ -2,7 +2,7 @@
 use mathlib.Core.Path.{_≡_, refl, subst⁻¹}
 use mathlib.Core.Logic.{⊎-elim}
 use mathlib.Core.Bool.{Bool, true, false}
-use mathlib.Core.List.{List, [], _∷_, List·Memᴰ·head, List·Memᴰ·cases-cons, List·Memᴰ·eq-of-singleton}
+use mathlib.Core.List.{List, List·Memᴰ·head, List·Memᴰ·cases-cons, List·Memᴰ·eq-of-singleton}
 use mathlib.Core.Option.{none}
 use native.Mathlib.Omega.{arith}
 use lib.IntN.{ℤ}
@@ -10,22 +10,22 @@ use Rattle.minutes.specs.Bools.{clash}
 use Rattle.board.specs.declared.Board.{Board}
 use Rattle.board.specs.Paper.View.{View, Invalid, Side, view}
 use Rattle.board.specs.Paper.Facts.{is-arc, is-bound, Holds}
-use Rattle.board.specs.Paper.Entries.{Entries, shown, _⊑_}
+use Rattle.board.specs.Paper.Entries.{Entries, shown}
 use Rattle.board.specs.Paper.Closed.{Least}
-use Rattle.board.specs.Order.Laws.{⊑-trans, holds-up}
+use Rattle.board.specs.Order.Laws.{holds-up}
 use Rattle.board.specs.Order.Unique.{least-unique, equal-boards}
 use Rattle.closure.specs.Check.{passes}
-use Rattle.closure.specs.Checked.{passes-within, passes-least, obeys-passes}
+use Rattle.closure.specs.Checked.{passes-within, passes-least}
 use Rattle.entries.specs.declared.Answer.the-variants as Answers
 use Rattle.entries.specs.declared.Entered.{Entered}
 use Rattle.entries.specs.Paper.Entry.{Statement, arc, cut, Entry, other, number, stated, withEntry}
 use Rattle.entries.specs.Paper.Gate.{statementChecks, gate}
-use Rattle.entries.specs.Paper.Enter.{counted, enter}
+use Rattle.entries.specs.Paper.Enter.{enter}
 use Rattle.entries.specs.Paper.Exact.{Outcome, by-table, impossible, accepted}
 use Rattle.entries.specs.Paper.Sequence.{Call, after}
 use Rattle.entries.specs.Made.{HoldAll, with-split, with-join}
 use Rattle.entries.specs.Allowed.{KnownAll, gate-allows, gate-more}
-use Rattle.entries.specs.Reached.{Reached, reached-counted}
+use Rattle.entries.specs.Later.{call-later, calls-later}
 use Rattle.entries.specs.Stepped.{Step, step, reached-shown, enter-checked, enter-refused}
 
 -- accepted without effect
@@ -63,39 +63,12 @@ unaltered b s p g holds = ends (enter b (other s)) (enter-checked b (other s) p)
 
 -- ---- repeated entries
 
--- c passes check 0 and shows what b shows
-record Later (b c : Board) : Type 0 where
-  passes : passes c ≡ true
-  above : view b ⊑ view c
-
-reached-later : (b c : Board) → Reached (shown (view b)) c → Later b c
-reached-later b c r = record { passes = obeys-passes c (r .within) (r .obeys); above = r .shows .atLeast }
-
--- a call leaves a board that shows all that it showed before
-module _ (b : Board) (e : Entry) (p : passes b ≡ true) where
-  later : (x : Entered) → Step (shown (view b)) b e x → Later b (x .board)
-  later _ (by-table r g) = reached-later b b (reached-shown b p)
-  later _ (impossible g i) = reached-later b (counted b) (reached-counted (shown (view b)) b (reached-shown b p))
-  later _ (accepted g c r t) =
-      record { passes = obeys-passes c (r .within) (r .obeys); above = with-split (shown (view b)) (view c) e (r .shows .atLeast) .0 }
-
-  call-later : Later b (enter b e .board)
-  call-later = later (enter b e) (step (shown (view b)) b e (reached-shown b p))
-
 -- an accepted statement met no refusal, and its board shows it
 shown-after : (b : Board) (s : Statement) (x : Entered) → Step (shown (view b)) b (other s) x → x .answer ≡ Answers.Accepted
     → (gate (statementChecks (b .jobs) s) ≡ none) × HoldAll (stated s) (view (x .board))
 shown-after b s _ (by-table r g) q = clash (cc)
 shown-after b s _ (impossible g i) q = clash (cc)
 shown-after b s _ (accepted g c r t) q = (g, with-split (shown (view b)) (view c) (other s) (r .shows .atLeast) .1)
-
-calls-later : (b : Board) (cs : List Call) → passes b ≡ true → Later b (after b cs)
-unfolding after
-calls-later b [] p = reached-later b b (reached-shown b p)
-calls-later b (c ∷ cs) p =
-    let one = call-later b (c .entry) p in
-    let rest = calls-later (enter b (c .entry) .board) cs (one .passes) in
-    record { passes = rest .passes; above = ⊑-trans _ _ _ (one .above) (rest .above) }
 
 accepted-passes : (b : Board) (e : Entry) → enter b e .answer ≡ Answers.Accepted → passes b ≡ true
 accepted-passes b e q = go (passes b) refl

@@ -3,11 +3,10 @@ use mathlib.Core.Path.{_≡_, refl}
 use mathlib.Core.List.{List, [], _∷_, _++_, List·Memᴰ·not-nil}
 use Prim.Native.Nat.{ℕ, _≤_}
 use native.Mathlib.Omega.{arith}
-use Rattle.board.specs.Paper.View.{View, view}
-use Rattle.board.specs.Paper.Facts.{Fact, Holds}
+use Rattle.board.specs.Paper.View.{view}
+use Rattle.board.specs.Paper.Facts.{Fact}
 use Rattle.board.specs.Paper.Limits.{tallyLimit, emptyBoard}
-use Rattle.board.specs.Tests.Empty.{within-empty, empty-below}
-use Rattle.board.specs.Inference.Infers.{Infers, r1, r2, r3, r45, r6}
+use Rattle.board.specs.Tests.Empty.{within-empty, empty-obeys, empty-below}
 use Rattle.board.specs.Inference.Agrees.{obeys-rules}
 use Rattle.board.specs.Paper.Closed.{Contradiction}
 use Rattle.board.specs.Order.Leastness.{impossible-contradiction}
@@ -27,14 +26,6 @@ use Rattle.entries.specs.Paper.Sequence.{Call}
 use Rattle.tries.specs.Ends.{plan-ends}
 use Rattle.promises.specs.Demand.{finalBoard, acceptedBy, Demand}
 
--- a view without jobs infers nothing
-no-inference : (v : View) → v .jobs ≡ 0 → (f : Fact) → Infers v f → Holds v f
-no-inference v empty _ (r1 a b c la vb lc ne ab bc) = absurd (omega (arith, empty, la .0))
-no-inference v empty _ (r2 a b va lb ab ba) = absurd (omega (arith, empty, lb .0))
-no-inference v empty _ (r3 a b la lb ne h) = absurd (omega (arith, empty, la .0))
-no-inference v empty _ (r45 s j S m lj p) = absurd (omega (arith, empty, lj .0))
-no-inference v empty _ (r6 j lj h) = absurd (omega (arith, empty, lj .0))
-
 nothing-stated : (f : Fact) → Stated [] f → ⊥
 nothing-stated f s = List·Memᴰ·not-nil (s .made)
 
@@ -53,7 +44,7 @@ module _ (t : ℕ) (fits : t ≤ tallyLimit) where
                     count = refl;
                     atLeast = record { jobs = omega arith; rows = λ k l. absurd (omega arith); facts = λ f s. absurd (nothing-stated f s) };
                   };
-              obeys = no-inference (view (emptyBoard t)) refl;
+              obeys = empty-obeys (view (emptyBoard t)) refl;
               below = λ w h ob. empty-below (emptyBoard t) (within-empty t fits) refl w;
             };
       }

@@ -1,6 +1,7 @@
 -- The planner's answers in the paper's words: what each case of the code's enum stands for.
+use mathlib.Core.List.{List}
 use Prim.Native.Nat.{ℕ}
-use lib.IntN.{pos}
+use lib.IntN.{ℤ, pos}
 use lib.ListN.{getD}
 use Rattle.words.specs.Bit.{bit}
 use Rattle.board.specs.Paper.Refusals.{numberOf}
@@ -17,8 +18,11 @@ pub data PlanReply : Type 0 where
   no-plan : ℕ → PlanReply
 
 -- "its plan, as a schedule, holds the placed jobs with their starts and no others"
+abbrev pub placing : ℕ → List ℤ → Placing
+placing word starts = record { placed = bit word; start = λ j. getD starts j (pos 0) }
+
 abbrev pub placingOf : Planned → Placing
-placingOf p = record { placed = bit (p .placed); start = λ j. getD (p .starts) j (pos 0) }
+placingOf p = placing (p .placed) (p .starts)
 
 abbrev pub replyWith : Placing → PlanAnswer → PlanReply
 replyWith p (Answers.Found t) = plan-found t p

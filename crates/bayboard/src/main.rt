@@ -1,0 +1,6 @@
+// The program `bayboard`: a text on standard input, its answers on standard output.
+use libc::STDIN_FILENO;
+
+fn main() {
+    console::run(STDIN_FILENO);
+}

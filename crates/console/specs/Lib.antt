@@ -1,0 +1,2 @@
+-- A text answered to its end.
+pub mod Pieces

@@ -1,0 +1,40 @@
+-- What the code answers of a scan: whether the text is the format filled in, and the numbers in four places.
+use Prim.Native.Nat.{ℕ, _<_}
+use lib.Dec.{eqb}
+use lib.IntN.{ℤ, pos}
+use lib.ListN.{length, getD}
+use mathlib.Core.Bool.{Bool, true, false, cond, false≢true}
+use mathlib.Core.List.{List, [], _∷_}
+use mathlib.Core.Option.{Option, none, some}
+use mathlib.Core.Path.{_≡_, refl}
+use native.Mathlib.Omega.{arith}
+use Rattle.formats.specs.declared.scan.Scanned.{Scanned}
+
+abbrev pub scanned : Option (List ℤ) → Scanned
+scanned none = record { matched = false; numbers = pos 0 ∷ pos 0 ∷ pos 0 ∷ pos 0 ∷ [] }
+scanned (some zs) =
+    record {
+      matched = true;
+      numbers = getD zs 0 (pos 0) ∷ getD zs 1 (pos 0) ∷ getD zs 2 (pos 0) ∷ getD zs 3 (pos 0) ∷ [];
+    }
+
+abbrev pub startsWith : ℕ → List ℕ → Bool
+startsWith c [] = false
+startsWith c (x ∷ t) = eqb x c
+
+-- the numbers found, where nothing is left of the text
+abbrev pub scannedWhole : List ℕ → List ℤ → Scanned
+scannedWhole t zs = cond (eqb (length t) 0) (record { matched = true; numbers = zs }) (scanned none)
+
+-- a text with its first byte apart
+pub starts-none : (c : ℕ) (t : List ℕ) → length t ≡ 0 → startsWith c t ≡ false
+starts-none c [] h = refl
+starts-none c (x ∷ t) h = absurd (omega arith)
+
+pub starts-first : (c : ℕ) (t : List ℕ) → 0 < length t → startsWith c t ≡ eqb (getD t 0 0) c
+starts-first c [] h = absurd (omega arith)
+starts-first c (x ∷ t) h = refl
+
+pub starts-some : (c : ℕ) (t : List ℕ) → startsWith c t ≡ true → 0 < length t
+starts-some c [] e = absurd (false≢true e)
+starts-some c (x ∷ t) e = omega arith

@@ -1,0 +1,76 @@
+// A text read by a format.
+use numerals::read::Numeral;
+use numerals::read::number;
+ghost use mathlib.Core.Option.{none};
+ghost use mathlib.Core.Path.{_≡_};
+ghost use Prim.Native.Nat.{_≤_};
+ghost use Rattle.formats.specs.Format as formats;
+ghost use Rattle.formats.specs.Format.{marks, numberMark};
+ghost use Rattle.formats.specs.Scan.{scanned, startsWith, scannedWhole};
+
+// The numbers at the marks of a format, in turn, and 0 beyond them; none where the text is not the format filled in.
+pub struct Scanned {
+    pub matched: bool,
+    pub numbers: [i32; 4],
+}
+
+const NUMBER_MARK: u8 = b'#';
+
+fn unmatched() -> Scanned
+    ensures { λ r. ⌜ r ≡ scanned none ⌝ }
+{
+    Scanned {
+        matched: false,
+        numbers: [0; 4],
+    }
+}
+
+fn starts_with(text: &[u8], byte: u8) -> bool
+    ensures { λ r. ⌜ r ≡ startsWith byte (now (text .entry)) ⌝ }
+{
+    if text.len() == 0 {
+        return false;
+    }
+    text[0] == byte
+}
+
+// The numbers found, where the text is used up.
+fn whole(text: &[u8], numbers: [i32; 4]) -> Scanned
+    ensures { λ r. ⌜ r ≡ scannedWhole (now (text .entry)) numbers ⌝ }
+{
+    if 0 < text.len() {
+        return unmatched();
+    }
+    Scanned {
+        matched: true,
+        numbers,
+    }
+}
+
+pub fn scan(format: &[u8], text: &[u8]) -> Scanned
+    requires { ⌜ marks numberMark (now format) ≤ 4 ⌝ }
+    ensures { λ r. ⌜ r ≡ scanned (formats.scan (now (format .entry)) (now (text .entry))) ⌝ }
+{
+    let mut f = format;
+    let mut t = text;
+    let mut numbers = [0; 4];
+    let mut count = 0;
+    while 0 < f.len() {
+        if f[0] == NUMBER_MARK {
+            let Numeral::Number { length, value } = number(t) else {
+                return unmatched();
+            };
+            numbers[count] = value;
+            count += 1;
+            t = &t[length..];
+            f = &f[1..];
+        } else {
+            if !starts_with(t, f[0]) {
+                return unmatched();
+            }
+            t = &t[1..];
+            f = &f[1..];
+        }
+    }
+    whole(t, numbers)
+}

@@ -1,0 +1,2 @@
+-- "one bracket form a line" as definitions.
+pub mod Forms

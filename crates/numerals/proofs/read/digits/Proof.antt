@@ -1,0 +1,65 @@
+-- `numerals::read::digits` meets its contract: all the bytes passed are digits. Assumes nothing.
+use Prim.Native.Nat.{_+_, _-_, _≤_}
+use lib.ListN.{length, drop}
+use mathlib.Core.Path.{_≡_, sym, _∙_}
+use native.Mathlib.Omega.{arith}
+use borrow.Author.Needs.{needs}
+use borrow.Author.Tests.{not-true, not-false}
+use Rattle.numerals.specs.DigitsRead.{digits-go-on, digits-end, digits-at-end}
+use Rattle.numerals.specs.Numerals.{digits}
+use Rattle.numerals.proofs.read.digits.Statement.{statement}
+use Rattle.numerals.proofs.read.digits.Tie as tie
+
+abbrev Inv-loop : tie.InvT-loop
+Inv-loop text count₀ count = (count ≤ length text) × (length (digits text) ≡ count + length (digits (drop count text)))
+
+abbrev μ-loop : tie.MeasureT-loop
+μ-loop text count₀ count = length text - count
+
+loop-holds : tie.Need-loop-holds Inv-loop μ-loop
+loop-holds c = search needs
+
+shared-slice-read-is-digit : tie.Need-shared-slice-read-is-digit Inv-loop μ-loop
+shared-slice-read-is-digit c = search needs
+
+is-digit-requires : tie.Need-is-digit-requires Inv-loop μ-loop
+is-digit-requires c κs = search needs
+
+returns : tie.Need-returns Inv-loop μ-loop
+returns c =
+    let now = c .before .before .before .before in
+    let ended = digits-end (now .before .before .args .text .now) _ (c .before .before .before .loop-test .taken) (sym (c .before .is-digit .ensures) ∙ not-true _ (c .if1 .taken)) in
+    omega (arith, ended, now .loop .inv .1)
+
+add-count : tie.Need-add-count Inv-loop μ-loop
+add-count c = search needs
+
+loop-less : tie.Need-loop-less Inv-loop μ-loop
+loop-less c = search needs
+
+loop-again : tie.Need-loop-again Inv-loop μ-loop
+loop-again c =
+    let now = c .before .before .before .before in
+    let more = digits-go-on (now .before .before .args .text .now) _ (c .before .before .before .loop-test .taken) (sym (c .before .is-digit .ensures) ∙ not-false _ (c .if1 .left)) in
+    omega (arith, more, now .loop .inv .1)
+
+returns-2 : tie.Need-returns-2 Inv-loop μ-loop
+returns-2 c =
+    let now = c .before in
+    let ended = digits-at-end (now .before .before .args .text .now) _ (c .loop-test .left) in
+    omega (arith, ended, now .loop .inv .1)
+
+pub digits-spec : {M : Type 1} → statement M
+digits-spec =
+    tie.close
+    (tie.spec
+    Inv-loop
+    μ-loop
+    loop-holds
+    shared-slice-read-is-digit
+    is-digit-requires
+    returns
+    add-count
+    loop-less
+    loop-again
+    returns-2)

@@ -1,0 +1,54 @@
+-- `numerals::read::number` meets its contract: the bytes after the minus are the text without its first. Assumes nothing.
+use mathlib.Core.Path.{sym}
+use native.Mathlib.Omega.{arith}
+use borrow.Author.Needs.{needs}
+use borrow.Author.Tests.{eq-eqb, ne-eqb}
+use Rattle.numerals.specs.First.{number-none, number-first}
+use Rattle.numerals.specs.Rest.{rest-drop}
+use Rattle.numerals.proofs.read.number.Statement.{statement}
+use Rattle.numerals.proofs.read.number.Tie as tie
+
+returns : tie.Need-returns
+returns c = sym (number-none (c .before .before .args .text .now) (c .if1 .taken))
+
+shared-slice-read-if2 : tie.Need-shared-slice-read-if2
+shared-slice-read-if2 c = search needs
+
+sub-negative : tie.Need-sub-negative
+sub-negative c = omega arith
+
+part-negative-start : tie.Need-part-negative-start
+part-negative-start c = search needs
+
+part-negative-end : tie.Need-part-negative-end
+part-negative-end c = search needs
+
+negative-requires : tie.Need-negative-requires
+negative-requires c κs = search needs
+
+returns-2 : tie.Need-returns-2
+returns-2 c =
+    let t = c .before .before .before .before .before .before .args .text .now in
+    rw (number-first t (omega arith), eq-eqb _ _ (c .before .before .if2 .taken)) (rw (rest-drop t 1) at (c .negative .ensures))
+
+natural-requires : tie.Need-natural-requires
+natural-requires c κs = search needs
+
+returns-3 : tie.Need-returns-3
+returns-3 c =
+    let t = c .before .before .before .before .before .args .text .now in
+    rw (number-first t (omega arith), ne-eqb _ _ (c .before .if2 .left)) (c .natural .ensures)
+
+pub number-spec : {M : Type 1} → statement M
+number-spec =
+    tie.close
+    (tie.spec
+    returns
+    shared-slice-read-if2
+    sub-negative
+    part-negative-start
+    part-negative-end
+    negative-requires
+    returns-2
+    natural-requires
+    returns-3)

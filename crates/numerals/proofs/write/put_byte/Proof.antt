@@ -1,0 +1,20 @@
+-- `numerals::write::put_byte` meets its contract: what is stored at a place is the last byte before the next. Assumes nothing.
+use borrow.Author.Needs.{needs}
+use Rattle.numerals.specs.Written.{byte-written}
+use Rattle.numerals.proofs.write.put_byte.Statement.{statement}
+use Rattle.numerals.proofs.write.put_byte.Tie as tie
+
+slice-write-out : tie.Need-slice-write-out
+slice-write-out c = search needs
+
+add-result : tie.Need-add-result
+add-result c = search needs
+
+same-length : tie.Need-same-length
+same-length c = search needs
+
+returns : tie.Need-returns
+returns c = byte-written _ _ _ (c .pre)
+
+pub put-byte-spec : {M : Type 1} → statement M
+put-byte-spec = tie.close (tie.spec slice-write-out add-result same-length returns)

@@ -1,0 +1,4 @@
+-- The answers as text.
+pub mod Paper
+pub mod Room
+pub mod Placements

@@ -1,0 +1,3 @@
+-- "The text" as definitions.
+pub mod Lines
+pub mod Text

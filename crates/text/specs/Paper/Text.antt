@@ -1,0 +1,97 @@
+-- A whole text: what each line gives, the bytes of all answers, and the board at the end.
+use Prim.Native.Nat.{ℕ}
+use lib.Dec.{leb}
+use lib.IntN.{ℤ}
+use lib.ListN.{length}
+use mathlib.Core.Bool.{cond}
+use mathlib.Core.List.{List, [], _∷_, _++_}
+use Rattle.board.specs.declared.Board.{Board}
+use Rattle.board.specs.declared.Refusal.the-variants as Refused
+use Rattle.board.specs.Paper.Refusals.{numberOf}
+use Rattle.board.specs.Paper.Limits.{emptyBoard}
+use Rattle.entries.specs.declared.Entered.{Entered}
+use Rattle.entries.specs.Paper.Entry.{Entry, addition, other, arc, mark, cut}
+use Rattle.entries.specs.Paper.Enter.{enter}
+use Rattle.entries.specs.Paper.Looking.{row, pair}
+use Rattle.entries.specs.Paper.Answers.{Reply, RowReply, PairReply, no-number, replyOf, rowReplyOf, pairReplyOf}
+use Rattle.tries.specs.Paper.Answers.{PlanReply, planReplyOf}
+use Rattle.tries.specs.Paper.Planner.{plan}
+use Rattle.forms.specs.declared.Form.{Form}
+use Rattle.forms.specs.declared.Form.the-variants.{Addition, Arc, Mark, Cut, Row, Pair, Plan, Tally, Unknown}
+use Rattle.forms.specs.Paper.Forms.{formOf}
+use Rattle.text.specs.Paper.Lines.{Line, ended, unended, linesOf}
+use Rattle.replies.specs.Paper.Replies.{entryText, rowText, pairText, planText, tallyText}
+
+-- the answer to a line
+pub data LineReply : Type 0 where
+  to-entry : Reply → LineReply
+  to-row : ℤ → RowReply → LineReply
+  to-pair : PairReply → LineReply
+  to-plan : PlanReply → LineReply
+  to-tally : ℕ → LineReply
+
+abbrev pub replyText : LineReply → List ℕ
+replyText (to-entry r) = entryText r
+replyText (to-row j r) = rowText j r
+replyText (to-pair r) = pairText r
+replyText (to-plan r) = planText r
+replyText (to-tally n) = tallyText n
+
+-- the answer to a line, and the board after it
+pub record Answered : Type 0 where
+  pub reply : LineReply
+  pub board : Board
+
+abbrev pub looked : Board → LineReply → Answered
+looked b r = record { reply = r; board = b }
+
+abbrev pub entered : Entered → Answered
+entered e = record { reply = to-entry (replyOf (e .answer)); board = e .board }
+
+-- 10 form, "the line is no form of the text"
+abbrev pub formless : Board → Answered
+formless b = looked b (to-entry (no-number (numberOf Refused.Form)))
+
+unfoldable pub carriedOut : Board → Form → Answered
+carriedOut b (Addition l e d m) = entered (enter b (addition l e d m))
+carriedOut b (Arc x y) = entered (enter b (other (arc x y)))
+carriedOut b (Mark j m) = entered (enter b (other (mark j m)))
+carriedOut b (Cut j e d) = entered (enter b (other (cut j e d)))
+carriedOut b (Row j) = looked b (to-row j (rowReplyOf (row b j)))
+carriedOut b (Pair x y) = looked b (to-pair (pairReplyOf (pair b x y)))
+carriedOut b (Plan n) = looked b (to-plan (planReplyOf (plan b n)))
+carriedOut b Tally = looked b (to-tally (b .tally))
+carriedOut b Unknown = formless b
+
+-- "An empty line, or a last line without its line feed, gets 10."
+abbrev pub answered : Board → Line → Answered
+answered b (ended l) = carriedOut b (formOf l)
+answered b (unended l) = formless b
+
+-- what a text gives: the answers to its lines in order, and the board at the end
+pub record Served : Type 0 where
+  pub replies : List LineReply
+  pub board : Board
+
+unfoldable pub serve : Board → List Line → Served
+serve b [] = record { replies = []; board = b }
+serve b (l ∷ ls) =
+    let a = answered b l in
+    let rest = serve (a .board) ls in
+    record { replies = a .reply ∷ rest .replies; board = rest .board }
+
+-- 11 load, "the text is longer than 65536 bytes"
+abbrev pub loadLimit : ℕ
+loadLimit = 65536
+
+-- "A text refused as 11 gives the line `(no 11)` and no other; none of its forms is carried out."
+abbrev pub overloaded : Served
+overloaded = record { replies = to-entry (no-number (numberOf Refused.Load)) ∷ []; board = emptyBoard 0 }
+
+unfoldable pub answer : List ℕ → Served
+answer t = cond (leb (length t) loadLimit) (serve (emptyBoard 0) (linesOf t)) overloaded
+
+-- the bytes of the answers
+unfoldable pub output : List LineReply → List ℕ
+output [] = []
+output (r ∷ rs) = replyText r ++ output rs

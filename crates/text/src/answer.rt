@@ -1,0 +1,75 @@
+// The answer to a form, and the board after it.
+use board::Board;
+use board::Refusal;
+use calls::addition;
+use calls::arc;
+use calls::cut;
+use entries::Entered;
+use forms::Form;
+use planner::plan;
+use replies::put_answer;
+use replies::put_pair;
+use replies::put_plan;
+use replies::put_refusal;
+use replies::put_row;
+use replies::put_tally;
+use views::pair;
+use views::row;
+ghost use mathlib.Core.Path.{_≡_};
+ghost use mathlib.Core.Bool.{true};
+ghost use Prim.Native.Nat.{_+_, _≤_};
+ghost use lib.ListN.{length};
+ghost use Rattle.numerals.specs.Written.{Written};
+ghost use Rattle.closure.specs.Check.{passes};
+ghost use Rattle.replies.specs.Room.{longest};
+ghost use Rattle.text.specs.Paper.Text as paper;
+
+// The board after a form, and where its answer ends in the buffer.
+pub struct Answered {
+    pub board: Board,
+    pub end: usize,
+}
+
+fn entered(out: &mut [u8], at: usize, entered: Entered) -> Answered
+    requires { ⌜ at + longest ≤ length (now out) ⌝ }
+    ensures { λ r. ⌜ Written (now (out .entry)) at (now (out .exit)) (r .end) (paper.replyText (paper.entered entered .reply)) longest ⌝ }
+    ensures { λ r. ⌜ r .board ≡ paper.entered entered .board ⌝ }
+{
+    let answer = entered.answer;
+    let board = entered.board;
+    let end = put_answer(out, at, answer);
+    Answered { board, end }
+}
+
+fn looked(board: Board, end: usize) -> Answered
+    ensures { λ r. ⌜ (r .board ≡ board) × (r .end ≡ end) ⌝ }
+{
+    Answered { board, end }
+}
+
+pub fn answer(board: Board, form: Form, out: &mut [u8], at: usize) -> Answered
+    requires { ⌜ (passes board ≡ true) × (at + longest ≤ length (now out)) ⌝ }
+    ensures { λ r. ⌜ Written (now (out .entry)) at (now (out .exit)) (r .end) (paper.replyText (paper.carriedOut board form .reply)) longest ⌝ }
+    ensures { λ r. ⌜ r .board ≡ paper.carriedOut board form .board ⌝ }
+{
+    match form {
+        Form::Addition {
+            length,
+            earliest,
+            latest,
+            mark,
+        } => entered(out, at, addition(board, length, earliest, latest, mark)),
+        Form::Arc { from, to } => entered(out, at, arc(board, from, to)),
+        Form::Mark { job, mark } => entered(out, at, calls::mark(board, job, mark)),
+        Form::Cut {
+            job,
+            earliest,
+            latest,
+        } => entered(out, at, cut(board, job, earliest, latest)),
+        Form::Row { job } => looked(board, put_row(out, at, job, row(board, job))),
+        Form::Pair { a, b } => looked(board, put_pair(out, at, pair(board, a, b))),
+        Form::Plan { budget } => looked(board, put_plan(out, at, plan(board, budget))),
+        Form::Tally => looked(board, put_tally(out, at, board.tally)),
+        Form::Unknown => looked(board, put_refusal(out, at, Refusal::Form)),
+    }
+}
