@@ -31,7 +31,7 @@ pub fn cut(board: Board, job: i32, earliest: i32, latest: i32) -> Board {
 }
 
 pub fn row(board: Board, job: u16) {
-    writing::row(job as u64, Dock { board }.row(job as i32));
+    writing::row(job as i32, Dock { board }.row(job as i32));
 }
 
 pub fn pair(board: Board, a: i32, b: i32) {

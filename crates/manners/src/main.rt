@@ -59,7 +59,7 @@ fn sequence(boards: Boards) -> Boards {
 }
 
 fn row(board: Board, job: u16) {
-    writing::row(job as u64, Dock { board }.row(job as i32));
+    writing::row(job as i32, Dock { board }.row(job as i32));
 }
 
 fn rows(boards: Boards) {

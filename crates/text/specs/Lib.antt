@@ -1,11 +1,11 @@
 -- "The text": from bytes to bytes.
 pub mod Paper
--- what the code goes by: a line at a time
-pub mod LineLaws
-pub mod Serving
-pub mod Carried
--- what follows of every text
+pub mod Examples
+-- every board on the way passes check 0, and no line is answered 0
 pub mod Checked
+-- what the code goes by: a line at a time, and a piece at a time
+pub mod LineLaws
+pub mod Carried
+pub mod Serving
 pub mod Loop
 pub mod Load
-

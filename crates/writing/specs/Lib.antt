@@ -1,2 +1,0 @@
--- Numbers that are written with their sign.
-pub mod Wide
