@@ -1,5 +1,5 @@
 -- What the calls answer is what a form gives, with its numbers as the code holds them.
-use mathlib.Core.Path.{_≡_, _∙_}
+use mathlib.Core.Path.{_≡_}
 use mathlib.Core.List.{List}
 use Prim.Native.Nat.{ℕ}
 use lib.IntN.{ℤ}

@@ -1,7 +1,6 @@
 -- Every board on the way passes check 0, so that the text never meets refusal 0: "the text program never meets it".
 use mathlib.Core.Path.{_≡_, refl, ap}
-use mathlib.Core.Logic.{_≢_}
-use mathlib.Core.Bool.{Bool, true, false, cond, _&&_}
+use mathlib.Core.Bool.{Bool, true, false, _&&_}
 use mathlib.Core.List.{List, [], _∷_}
 use mathlib.Core.Option.{Option, none, some}
 use Prim.Native.Nat.{ℕ, _<_}
@@ -15,7 +14,7 @@ use Rattle.board.specs.declared.Board.{Board}
 use Rattle.board.specs.declared.Refusal.{Refusal}
 use Rattle.board.specs.Paper.Limits.{emptyBoard}
 use Rattle.board.specs.Paper.Refusals.{numberOf}
-use Rattle.board.specs.Paper.View.{View, view, rowOf}
+use Rattle.board.specs.Paper.View.{View, view}
 use Rattle.board.specs.Tests.Live.{live}
 use Rattle.closure.specs.Check.{passes}
 use Rattle.closure.specs.Checked.{empty-passes}
@@ -28,7 +27,6 @@ use Rattle.entries.specs.Paper.Answers.{Reply, ok-number, ok, no-number, replyO
 use Rattle.entries.specs.Answered.{lines, gate-line, answered-board}
 use Rattle.entries.specs.Later.{call-later}
 use Rattle.entries.specs.Stepped.{enter-checked}
-use Rattle.tries.specs.declared.Planned.{Planned}
 use Rattle.tries.specs.Paper.Answers.{plan-found, plan-none, plan-spent, no-plan, planReplyOf}
 use Rattle.tries.specs.Paper.Tries.{Outcome, found, none as exhausted, tries}
 use Rattle.tries.specs.Paper.Exact.{taken}

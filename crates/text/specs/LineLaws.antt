@@ -8,7 +8,7 @@ use native.Mathlib.Omega.{arith}
 use lib.Dec.{eqb}
 use lib.ListN.{length, getD, take, drop, drop-of-length-le}
 use lib.Seq.{drop-cons}
-use Rattle.text.specs.Paper.Lines.{lineFeed, Line, ended, unended, withByte, linesOf}
+use Rattle.text.specs.Paper.Lines.{lineFeed, ended, unended, withByte, linesOf}
 
 -- how many bytes stand before the first line feed, or in the whole text where there is none
 unfoldable pub lineLength : List ℕ → ℕ

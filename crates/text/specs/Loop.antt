@@ -1,8 +1,8 @@
 -- What the loop over the lines of a text keeps.
 use mathlib.Core.Path.{_≡_, refl, ap, subst, _∙_}
 use mathlib.Core.Bool.{true}
-use mathlib.Core.List.{List, [], _∷_, _++_}
-use Prim.Native.Nat.{ℕ, suc, _+_, _-_, _≤_, _<_}
+use mathlib.Core.List.{List, [], _∷_}
+use Prim.Native.Nat.{ℕ, _+_, _-_, _≤_, _<_}
 use native.Mathlib.Nat.{le-refl, sub-self}
 use native.Mathlib.Numerals.{add-one}
 use native.Mathlib.Omega.{arith}
@@ -18,7 +18,6 @@ use Rattle.closure.specs.Check.{passes}
 use Rattle.forms.specs.Paper.Forms.{formOf}
 use Rattle.replies.specs.Paper.Replies.{refusalText}
 use Rattle.replies.specs.Room.{longest}
-use Rattle.text.specs.declared.Piece.{Piece}
 use Rattle.text.specs.Paper.Lines.{linesOf}
 use Rattle.text.specs.Paper.Text.{Served, carriedOut, serve}
 use Rattle.text.specs.Carried.{Gives}

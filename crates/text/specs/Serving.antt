@@ -13,7 +13,7 @@ use Rattle.forms.specs.Paper.Forms.{formOf}
 use Rattle.replies.specs.Paper.Replies.{refusalText}
 use Rattle.text.specs.declared.Piece.{Piece}
 use Rattle.text.specs.Paper.Lines.{Line, linesOf}
-use Rattle.text.specs.Paper.Text.{Answered, Served, replyText, carriedOut, answered, serve, output}
+use Rattle.text.specs.Paper.Text.{Served, replyText, carriedOut, answered, serve, output}
 use Rattle.text.specs.LineLaws.{lineLength, lines-ended, lines-unended}
 
 -- s gives the bytes w, and then what the text t gives from board b

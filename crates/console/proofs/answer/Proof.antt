@@ -10,12 +10,6 @@ use Rattle.text.specs.Paper.Text.{answer}
 use Rattle.console.specs.Pieces.{Remains, first-piece, next-piece, all-answered}
 use Rattle.console.proofs.answer.Statement.{statement}
 use Rattle.console.proofs.answer.Tie as tie
-use Rattle.console.proofs.answer.Reads as reads
-use Rattle.console.proofs.answer.Lts as lts
-use Rattle.io.proofs.large_buffer.Reads as large-buffer-reads
-use Rattle.io.proofs.write_all.Reads as write-all-reads
-use Rattle.text.proofs.next.Reads as next-reads
-use Rattle.text.proofs.start.Reads as start-reads
 
 abbrev Inv-loop : tie.InvT-loop
 Inv-loop bytes out₀ board₀ written₀ read rest₀ out board written rest =
@@ -24,86 +18,66 @@ Inv-loop bytes out₀ board₀ written₀ read rest₀ out board written rest =
 abbrev μ-loop : tie.MeasureT-loop
 μ-loop bytes out₀ board₀ written₀ read rest₀ out board written rest = length rest
 
--- src/lib.rt:56:19
 large-buffer-requires : tie.Need-large-buffer-requires Inv-loop μ-loop
 large-buffer-requires c κs = search needs
 
--- src/lib.rt:57:36
 slice-aggregate-start : tie.Need-slice-aggregate-start Inv-loop μ-loop
 slice-aggregate-start c = search needs
 
--- src/lib.rt:57:9
 start-requires : tie.Need-start-requires Inv-loop μ-loop
 start-requires c κs = search needs
 
--- src/lib.rt:61:20
 sub-rest : tie.Need-sub-rest Inv-loop μ-loop
 sub-rest c = c .before .before .start .ensures .read
 
--- src/lib.rt:61:20
 part-rest-start : tie.Need-part-rest-start Inv-loop μ-loop
 part-rest-start c = c .before .before .start .ensures .read
 
--- src/lib.rt:61:20
 part-rest-end : tie.Need-part-rest-end Inv-loop μ-loop
 part-rest-end c = search needs
 
--- src/lib.rt:62:5
 loop-holds : tie.Need-loop-holds Inv-loop μ-loop
 loop-holds c = (c .before .before .before .start .kept .1 .0 ∙ sym (c .before .before .before .before .before .large-buffer .ensures), c .before .before .before .start .ensures .written, first-piece _ _ _ _ (c .before .before .before .start .ensures))
 
--- src/lib.rt:62:40
 sub-write-all : tie.Need-sub-write-all Inv-loop μ-loop
 sub-write-all c = search needs
 
--- src/lib.rt:62:40
 part-write-all-start : tie.Need-part-write-all-start Inv-loop μ-loop
 part-write-all-start c = search needs
 
--- src/lib.rt:62:40
 part-write-all-end : tie.Need-part-write-all-end Inv-loop μ-loop
 part-write-all-end c = search needs
 
--- src/lib.rt:62:11
 write-all-requires : tie.Need-write-all-requires Inv-loop μ-loop
 write-all-requires c κs = search needs
 
--- src/lib.rt:64:13
 returns : tie.Need-returns Inv-loop μ-loop
 returns c = λ e. all-answered _ _ _ (c .before .before .before .before .before .loop .inv .2) (c .if2 .taken)
 
--- src/lib.rt:69:45
 slice-aggregate-next : tie.Need-slice-aggregate-next Inv-loop μ-loop
 slice-aggregate-next c = search needs
 
--- src/lib.rt:69:13
 next-requires : tie.Need-next-requires Inv-loop μ-loop
 next-requires c κs = (c .before .before .before .before .before .before .loop .inv .2 .passes, omega (arith, c .before .before .before .before .before .before .loop .inv .0))
 
--- src/lib.rt:73:16
 sub-rest-2 : tie.Need-sub-rest-2 Inv-loop μ-loop
 sub-rest-2 c = search needs
 
--- src/lib.rt:73:16
 part-rest-start-2 : tie.Need-part-rest-start-2 Inv-loop μ-loop
 part-rest-start-2 c = search needs
 
--- src/lib.rt:73:16
 part-rest-end-2 : tie.Need-part-rest-end-2 Inv-loop μ-loop
 part-rest-end-2 c = search needs
 
--- src/lib.rt:62:5
 loop-less : tie.Need-loop-less Inv-loop μ-loop
 loop-less c =
     let left = c .before .before .before .before .before .before .before .before .before .before .loop .rest .now in
     let piece = c .before .before .before .next in
     omega (arith, rest-length left (piece .result .read), piece .ensures .read, piece .ensures .progress (omega (arith, c .before .before .before .before .before .if2 .left)))
 
--- src/lib.rt:62:5
 loop-again : tie.Need-loop-again Inv-loop μ-loop
 loop-again c = (c .before .before .before .next .kept .1 .1 .0 ∙ c .before .before .before .before .before .before .before .before .before .before .loop .inv .0, c .before .before .before .next .ensures .written, next-piece _ _ _ _ _ (c .before .before .before .before .before .before .before .before .before .before .loop .inv .2) (c .before .before .before .next .ensures))
 
--- src/lib.rt:53:1
 returns-2 : tie.Need-returns-2 Inv-loop μ-loop
 returns-2 c = λ e. absurd (false≢true e)
 

@@ -1,82 +1,61 @@
+-- `replies::put_answer` meets its contract. Assumes nothing.
 use native.Mathlib.Omega.{arith}
 use borrow.Author.Needs.{needs}
 use Rattle.numerals.specs.Written.{weaken-written}
 use Rattle.replies.proofs.put_answer.Statement.{statement}
 use Rattle.replies.proofs.put_answer.Tie as tie
-use Rattle.replies.proofs.put_answer.Reads as reads
-use Rattle.replies.proofs.put_answer.Lts as lts
-use Rattle.formats.proofs.print.print.Reads as print-reads
-use Rattle.replies.proofs.put_refusal.Reads as put-refusal-reads
 
--- src/lib.rt:38:23
 enum-known-answer : tie.Need-enum-known-answer
 enum-known-answer c = search needs
 
--- src/lib.rt:38:46
 slice-aggregate-print : tie.Need-slice-aggregate-print
 slice-aggregate-print c = search needs
 
--- src/lib.rt:38:59
 slice-aggregate-print-2 : tie.Need-slice-aggregate-print-2
 slice-aggregate-print-2 c = search needs
 
--- src/lib.rt:38:74
 slice-aggregate-print-3 : tie.Need-slice-aggregate-print-3
 slice-aggregate-print-3 c = search needs
 
--- src/lib.rt:38:31
 print-requires : tie.Need-print-requires
 print-requires c κs = search needs
 
--- src/lib.rt:39:35
 enum-told : tie.Need-enum-told
 enum-told c = search needs
 
--- src/lib.rt:39:44
 slice-aggregate-print-4 : tie.Need-slice-aggregate-print-4
 slice-aggregate-print-4 c = search needs
 
--- src/lib.rt:39:55
 slice-aggregate-print-5 : tie.Need-slice-aggregate-print-5
 slice-aggregate-print-5 c = search needs
 
--- src/lib.rt:39:60
 slice-aggregate-print-6 : tie.Need-slice-aggregate-print-6
 slice-aggregate-print-6 c = search needs
 
--- src/lib.rt:39:29
 print-requires-2 : tie.Need-print-requires-2
 print-requires-2 c κs = search needs
 
--- src/lib.rt:40:25
 enum-known-answer-2 : tie.Need-enum-known-answer-2
 enum-known-answer-2 c = search needs
 
--- src/lib.rt:40:37
 put-refusal-requires : tie.Need-put-refusal-requires
 put-refusal-requires c κs = search needs
 
--- src/lib.rt:33:1
 same-length : tie.Need-same-length
 same-length c = search needs
 
--- src/lib.rt:33:1
 returns : tie.Need-returns
 returns c = rw (c .before .before .before .before .before .before .before .before .answer .given .1) (weaken-written (c .before .before .print .ensures) (omega arith))
 
--- src/lib.rt:33:1
 same-length-2 : tie.Need-same-length-2
 same-length-2 c = search needs
 
--- src/lib.rt:33:1
 returns-2 : tie.Need-returns-2
 returns-2 c = rw (c .before .before .before .before .before .before .before .enum-told .given .1) (weaken-written (c .before .before .print2 .ensures) (omega arith))
 
--- src/lib.rt:33:1
 same-length-3 : tie.Need-same-length-3
 same-length-3 c = search needs
 
--- src/lib.rt:33:1
 returns-3 : tie.Need-returns-3
 returns-3 c = rw (c .before .before .before .before .before .answer2 .given .1) (c .before .before .put-refusal .ensures)
 

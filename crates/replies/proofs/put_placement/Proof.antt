@@ -7,40 +7,28 @@ use Rattle.numerals.specs.Written.{nothing-written, weaken-written}
 use Rattle.formats.specs.Numbers.{one-number}
 use Rattle.replies.proofs.put_placement.Statement.{statement}
 use Rattle.replies.proofs.put_placement.Tie as tie
-use Rattle.replies.proofs.put_placement.Reads as reads
-use Rattle.replies.proofs.put_placement.Lts as lts
-use Rattle.formats.proofs.print.print.Reads as print-reads
-use Rattle.words.proofs.has.Reads as has-reads
 
--- src/lib.rt:83:9
 has-requires : tie.Need-has-requires
 has-requires c κs = search needs
 
--- src/lib.rt:84:9
 returns : tie.Need-returns
 returns c = rw (sym (c .before .has .ensures) ∙ not-true _ (c .if1 .taken)) (weaken-written (nothing-written _ _) (omega arith))
 
--- src/lib.rt:86:20
 slice-aggregate-print : tie.Need-slice-aggregate-print
 slice-aggregate-print c = search needs
 
--- src/lib.rt:86:31
 slice-aggregate-print-2 : tie.Need-slice-aggregate-print-2
 slice-aggregate-print-2 c = search needs
 
--- src/lib.rt:86:46
 slice-aggregate-print-3 : tie.Need-slice-aggregate-print-3
 slice-aggregate-print-3 c = search needs
 
--- src/lib.rt:86:5
 print-requires : tie.Need-print-requires
 print-requires c κs = search needs
 
--- src/lib.rt:79:1
 same-length : tie.Need-same-length
 same-length c = search needs
 
--- src/lib.rt:79:1
 returns-2 : tie.Need-returns-2
 returns-2 c = rw (sym (c .before .before .before .before .before .before .before .before .has .ensures) ∙ not-false _ (c .before .before .before .before .before .before .before .if1 .left)) (one-number _ _ _ (search needs) (c .before .before .print .ensures) (omega arith))
 

@@ -1,6 +1,6 @@
 -- `replies::put_placements` meets its contract: up to each job, the placements so far are written. Assumes nothing.
 use Prim.Native.Nat.{_*_, _-_, _≤_}
-use mathlib.Core.Path.{_≡_, sym, refl, _∙_}
+use mathlib.Core.Path.{_≡_, refl, _∙_}
 use native.Mathlib.Omega.{arith}
 use lib.IntN.{pos}
 use lib.ListN.{length, getD}
@@ -17,9 +17,6 @@ use Rattle.replies.specs.Placements.{no-placements, next-placement}
 use Rattle.replies.specs.Room.{placementRoom}
 use Rattle.replies.proofs.put_placements.Statement.{statement}
 use Rattle.replies.proofs.put_placements.Tie as tie
-use Rattle.replies.proofs.put_placements.Reads as reads
-use Rattle.replies.proofs.put_placements.Lts as lts
-use Rattle.replies.proofs.put_placement.Reads as put-placement-reads
 
 abbrev Inv-loop : tie.InvT-loop
 Inv-loop out₀ at placed starts end₀ job₀ out end job =
@@ -29,31 +26,24 @@ Inv-loop out₀ at placed starts end₀ job₀ out end job =
 abbrev μ-loop : tie.MeasureT-loop
 μ-loop out₀ at placed starts end₀ job₀ out end job = jobLimit - job
 
--- src/lib.rt:95:5
 loop-holds : tie.Need-loop-holds Inv-loop μ-loop
 loop-holds c = (omega arith, refl, rw (no-placements (placing (c .before .args .placed) (c .before .args .t4))) (weaken-written (nothing-written _ _) (omega arith)))
 
--- src/lib.rt:96:52
 mul-put-placement : tie.Need-mul-put-placement Inv-loop μ-loop
 mul-put-placement c = search needs
 
--- src/lib.rt:96:52
 array-copy-out-put-placement : tie.Need-array-copy-out-put-placement Inv-loop μ-loop
 array-copy-out-put-placement c = search needs
 
--- src/lib.rt:96:9
 put-placement-requires : tie.Need-put-placement-requires Inv-loop μ-loop
 put-placement-requires c κs = let at = c .before .before .before in (c .before .before .loop-test .taken, omega (arith, at .loop .inv .1, at .loop .inv .2 .room, at .before .before .pre))
 
--- src/lib.rt:95:9
 add-job : tie.Need-add-job Inv-loop μ-loop
 add-job c = search needs
 
--- src/lib.rt:95:5
 loop-less : tie.Need-loop-less Inv-loop μ-loop
 loop-less c = search needs
 
--- src/lib.rt:95:5
 loop-again : tie.Need-loop-again Inv-loop μ-loop
 loop-again c =
     let at = c .before .before .before .before .before .before in
@@ -65,11 +55,9 @@ loop-again c =
       rw (next-placement jobs (at .loop .job)) (append-written (at .loop .inv .2) (simp (toZ-ofZ, fits) at (c .before .before .put-placement .ensures)) (omega arith)),
     )
 
--- src/lib.rt:90:1
 same-length : tie.Need-same-length Inv-loop μ-loop
 same-length c = c .before .loop .inv .1
 
--- src/lib.rt:90:1
 returns : tie.Need-returns Inv-loop μ-loop
 returns c =
     let at = c .before in

@@ -4,105 +4,76 @@ use borrow.Author.Needs.{needs}
 use Rattle.numerals.specs.Written.{weaken-written}
 use Rattle.replies.proofs.put_plan.Statement.{statement}
 use Rattle.replies.proofs.put_plan.Tie as tie
-use Rattle.replies.proofs.put_plan.Reads as reads
-use Rattle.replies.proofs.put_plan.Lts as lts
-use Rattle.formats.proofs.print.print.Reads as print-reads
-use Rattle.replies.proofs.put_found.Reads as put-found-reads
-use Rattle.replies.proofs.put_refusal.Reads as put-refusal-reads
 
--- src/lib.rt:117:27
 enum-known-answer : tie.Need-enum-known-answer
 enum-known-answer c = search needs
 
--- src/lib.rt:119:13
 put-found-requires : tie.Need-put-found-requires
 put-found-requires c κs = search needs
 
--- src/lib.rt:121:26
 enum-known-answer-2 : tie.Need-enum-known-answer-2
 enum-known-answer-2 c = search needs
 
--- src/lib.rt:121:51
 slice-aggregate-print : tie.Need-slice-aggregate-print
 slice-aggregate-print c = search needs
 
--- src/lib.rt:121:75
 cast-t22 : tie.Need-cast-t22
 cast-t22 c = search needs
 
--- src/lib.rt:121:73
 slice-aggregate-print-2 : tie.Need-slice-aggregate-print-2
 slice-aggregate-print-2 c = search needs
 
--- src/lib.rt:121:90
 slice-aggregate-print-3 : tie.Need-slice-aggregate-print-3
 slice-aggregate-print-3 c = search needs
 
--- src/lib.rt:121:36
 print-requires : tie.Need-print-requires
 print-requires c κs = search needs
 
--- src/lib.rt:122:27
 enum-known-answer-3 : tie.Need-enum-known-answer-3
 enum-known-answer-3 c = search needs
 
--- src/lib.rt:122:53
 slice-aggregate-print-4 : tie.Need-slice-aggregate-print-4
 slice-aggregate-print-4 c = search needs
 
--- src/lib.rt:122:78
 cast-t32 : tie.Need-cast-t32
 cast-t32 c = search needs
 
--- src/lib.rt:122:76
 slice-aggregate-print-5 : tie.Need-slice-aggregate-print-5
 slice-aggregate-print-5 c = search needs
 
--- src/lib.rt:122:94
 slice-aggregate-print-6 : tie.Need-slice-aggregate-print-6
 slice-aggregate-print-6 c = search needs
 
--- src/lib.rt:122:38
 print-requires-2 : tie.Need-print-requires-2
 print-requires-2 c κs = search needs
 
--- src/lib.rt:123:29
 enum-known-answer-4 : tie.Need-enum-known-answer-4
 enum-known-answer-4 c = search needs
 
--- src/lib.rt:123:41
 put-refusal-requires : tie.Need-put-refusal-requires
 put-refusal-requires c κs = search needs
 
--- src/lib.rt:111:1
 same-length : tie.Need-same-length
 same-length c = search needs
 
--- src/lib.rt:111:1
 returns : tie.Need-returns
 returns c = rw (c .before .before .before .before .before .before .answer .given .1) (c .before .before .put-found .ensures)
 
--- src/lib.rt:111:1
 same-length-2 : tie.Need-same-length-2
 same-length-2 c = search needs
 
--- src/lib.rt:111:1
 returns-2 : tie.Need-returns-2
 returns-2 c = rw (c .before .before .before .before .before .before .before .before .answer2 .given .1) (weaken-written (c .before .before .print .ensures) (omega arith))
 
--- src/lib.rt:111:1
 same-length-3 : tie.Need-same-length-3
 same-length-3 c = search needs
 
--- src/lib.rt:111:1
 returns-3 : tie.Need-returns-3
 returns-3 c = rw (c .before .before .before .before .before .before .before .before .answer3 .given .1) (weaken-written (c .before .before .print2 .ensures) (omega arith))
 
--- src/lib.rt:111:1
 same-length-4 : tie.Need-same-length-4
 same-length-4 c = search needs
 
--- src/lib.rt:111:1
 returns-4 : tie.Need-returns-4
 returns-4 c = rw (c .before .before .before .before .before .answer4 .given .1) (c .before .before .put-refusal .ensures)
 

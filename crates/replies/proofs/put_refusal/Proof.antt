@@ -1,42 +1,31 @@
+-- `replies::put_refusal` meets its contract. Assumes nothing.
 use native.Mathlib.Omega.{arith}
 use borrow.Author.Needs.{needs}
 use Rattle.numerals.specs.Written.{weaken-written}
 use Rattle.replies.proofs.put_refusal.Statement.{statement}
 use Rattle.replies.proofs.put_refusal.Tie as tie
-use Rattle.replies.proofs.put_refusal.Reads as reads
-use Rattle.replies.proofs.put_refusal.Lts as lts
-use Rattle.board.proofs.Refusal.number.Reads as number-reads
-use Rattle.formats.proofs.print.print.Reads as print-reads
 
--- src/lib.rt:29:20
 slice-aggregate-print : tie.Need-slice-aggregate-print
 slice-aggregate-print c = search needs
 
--- src/lib.rt:29:35
 number-requires : tie.Need-number-requires
 number-requires c κs = search needs
 
--- src/lib.rt:29:35
 cast-t12 : tie.Need-cast-t12
 cast-t12 c = search needs
 
--- src/lib.rt:29:33
 slice-aggregate-print-2 : tie.Need-slice-aggregate-print-2
 slice-aggregate-print-2 c = search needs
 
--- src/lib.rt:29:61
 slice-aggregate-print-3 : tie.Need-slice-aggregate-print-3
 slice-aggregate-print-3 c = search needs
 
--- src/lib.rt:29:5
 print-requires : tie.Need-print-requires
 print-requires c κs = search needs
 
--- src/lib.rt:25:1
 same-length : tie.Need-same-length
 same-length c = search needs
 
--- src/lib.rt:25:1
 returns : tie.Need-returns
 returns c = weaken-written (rw (c .before .before .before .before .before .number .ensures) at (c .before .before .print .ensures)) (omega arith)
 

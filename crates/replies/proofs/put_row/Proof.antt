@@ -1,58 +1,43 @@
+-- `replies::put_row` meets its contract. Assumes nothing.
 use native.Mathlib.Omega.{arith}
 use borrow.Author.Needs.{needs}
 use Rattle.formats.specs.Numbers.{three-numbers}
 use Rattle.replies.proofs.put_row.Statement.{statement}
 use Rattle.replies.proofs.put_row.Tie as tie
-use Rattle.replies.proofs.put_row.Reads as reads
-use Rattle.replies.proofs.put_row.Lts as lts
-use Rattle.formats.proofs.print.print.Reads as print-reads
-use Rattle.replies.proofs.put_refusal.Reads as put-refusal-reads
 
--- src/lib.rt:51:13
 enum-known-row : tie.Need-enum-known-row
 enum-known-row c = search needs
 
--- src/lib.rt:59:13
 slice-aggregate-print : tie.Need-slice-aggregate-print
 slice-aggregate-print c = search needs
 
--- src/lib.rt:60:15
 cast-t18 : tie.Need-cast-t18
 cast-t18 c = search needs
 
--- src/lib.rt:60:13
 slice-aggregate-print-2 : tie.Need-slice-aggregate-print-2
 slice-aggregate-print-2 c = search needs
 
--- src/lib.rt:61:13
 slice-aggregate-print-3 : tie.Need-slice-aggregate-print-3
 slice-aggregate-print-3 c = search needs
 
--- src/lib.rt:56:14
 print-requires : tie.Need-print-requires
 print-requires c κs = search needs
 
--- src/lib.rt:63:28
 enum-known-row-2 : tie.Need-enum-known-row-2
 enum-known-row-2 c = search needs
 
--- src/lib.rt:63:40
 put-refusal-requires : tie.Need-put-refusal-requires
 put-refusal-requires c κs = search needs
 
--- src/lib.rt:45:1
 same-length : tie.Need-same-length
 same-length c = search needs
 
--- src/lib.rt:45:1
 returns : tie.Need-returns
 returns c = rw (c .before .before .before .before .before .before .before .before .row .given .1) (three-numbers _ _ _ _ _ (search needs) (search needs) (search needs) (c .before .before .print .ensures) (omega arith))
 
--- src/lib.rt:45:1
 same-length-2 : tie.Need-same-length-2
 same-length-2 c = search needs
 
--- src/lib.rt:45:1
 returns-2 : tie.Need-returns-2
 returns-2 c = rw (c .before .before .before .before .before .row2 .given .1) (c .before .before .put-refusal .ensures)
 

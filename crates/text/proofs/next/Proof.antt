@@ -1,9 +1,9 @@
 -- `text::next` meets its contract: after each line, what was written and what remains give the whole. Assumes nothing.
-use Prim.Native.Nat.{_+_, _-_, _≤_, _<_}
+use Prim.Native.Nat.{_+_, _≤_, _<_}
 use mathlib.Core.Path.{_≡_, refl, sym, _∙_}
 use native.Mathlib.Nat.{sub-zero}
 use native.Mathlib.Omega.{arith}
-use lib.ListN.{length, take}
+use lib.ListN.{length}
 use borrow.Author.Needs.{needs}
 use Rattle.numerals.specs.Rest.{rest-length}
 use Rattle.replies.specs.Room.{longest}
@@ -13,12 +13,6 @@ use Rattle.text.specs.Paper.Lines.{linesOf}
 use Rattle.text.specs.Paper.Text.{serve}
 use Rattle.text.proofs.next.Statement.{statement}
 use Rattle.text.proofs.next.Tie as tie
-use Rattle.text.proofs.next.Reads as reads
-use Rattle.text.proofs.next.Lts as lts
-use Rattle.forms.proofs.read.Reads as read-reads
-use Rattle.replies.proofs.put_refusal.Reads as put-refusal-reads
-use Rattle.text.proofs.answer.answer.Reads as answer-reads
-use Rattle.text.proofs.line.line_length.Reads as line-length-reads
 
 abbrev Inv-loop : tie.InvT-loop
 Inv-loop text out₀ board₀ rest₀ at₀ out board rest at =
@@ -39,86 +33,66 @@ ended c =
     let is = c .before .line-length .ensures in
     (is, omega (arith, is, c .if2 .left, line-within (c .before .before .before .before .loop .rest .now)))
 
--- src/lib.rt:40:5
 loop-holds : tie.Need-loop-holds Inv-loop μ-loop
 loop-holds c = (refl, going-start _ _ _ (c .before .before .pre .0))
 
--- src/lib.rt:41:12
 sub-if1 : tie.Need-sub-if1 Inv-loop μ-loop
 sub-if1 c = c .before .loop .inv .1 .written
 
--- src/lib.rt:44:23
 sub-t16 : tie.Need-sub-t16 Inv-loop μ-loop
 sub-t16 c = c .before .before .loop .inv .1 .within
 
--- src/lib.rt:42:13
 same-length : tie.Need-same-length Inv-loop μ-loop
 same-length c = c .before .before .loop .inv .0
 
--- src/lib.rt:42:13
 returns : tie.Need-returns Inv-loop μ-loop
 returns c = full _ _ _ _ _ _ (c .before .before .loop .inv .1) (c .if1 .taken) (omega (arith, c .before .before .loop .inv .0, c .before .before .before .before .before .pre .1))
 
--- src/lib.rt:48:13
 line-length-requires : tie.Need-line-length-requires Inv-loop μ-loop
 line-length-requires c κs = search needs
 
--- src/lib.rt:50:17
 put-refusal-requires : tie.Need-put-refusal-requires Inv-loop μ-loop
 put-refusal-requires c κs = space (c .before .before .before)
 
--- src/lib.rt:51:13
 same-length-2 : tie.Need-same-length-2 Inv-loop μ-loop
 same-length-2 c = c .before .before .put-refusal .kept .0 ∙ c .before .before .before .before .before .before .before .before .loop .inv .0
 
--- src/lib.rt:51:13
 returns-2 : tie.Need-returns-2 Inv-loop μ-loop
 returns-2 c =
     let at = c .before .before .before .before .before .before .before .before in
     let all = sym (c .before .before .before .before .before .line-length .ensures) ∙ c .before .before .before .before .if2 .taken in
     last _ _ _ _ _ _ (at .loop .inv .1) _ _ (space (c .before .before .before .before .before .before)) (c .before .before .put-refusal .kept .0) (c .before .before .before .before .before .before .before .loop-test .taken) all (c .before .before .put-refusal .ensures)
 
--- src/lib.rt:57:43
 sub-read : tie.Need-sub-read Inv-loop μ-loop
 sub-read c = omega (arith, ended c)
 
--- src/lib.rt:57:43
 part-read-start : tie.Need-part-read-start Inv-loop μ-loop
 part-read-start c = omega (arith, ended c)
 
--- src/lib.rt:57:43
 part-read-end : tie.Need-part-read-end Inv-loop μ-loop
 part-read-end c = omega (arith, ended c)
 
--- src/lib.rt:57:38
 read-requires : tie.Need-read-requires Inv-loop μ-loop
 read-requires c κs = search needs
 
--- src/lib.rt:57:13
 answer-requires : tie.Need-answer-requires Inv-loop μ-loop
 answer-requires c κs = (c .before .before .before .before .before .before .before .loop .inv .1 .passes, space (c .before .before .before .before .before))
 
--- src/lib.rt:60:21
 add-after : tie.Need-add-after Inv-loop μ-loop
 add-after c = record { fits = omega (arith, ended (c .before .before .before .before .before .before .before), c .before .before .before .before .before .before .before .before .before .before .before .loop .inv .1 .within) }
 
--- src/lib.rt:61:16
 sub-rest : tie.Need-sub-rest Inv-loop μ-loop
 sub-rest c = omega (arith, ended (c .before .before .before .before .before .before .before))
 
--- src/lib.rt:61:16
 part-rest-start : tie.Need-part-rest-start Inv-loop μ-loop
 part-rest-start c = omega (arith, ended (c .before .before .before .before .before .before .before))
 
--- src/lib.rt:61:16
 part-rest-end : tie.Need-part-rest-end Inv-loop μ-loop
 part-rest-end c = omega (arith, ended (c .before .before .before .before .before .before .before))
 
--- src/lib.rt:40:5
 loop-less : tie.Need-loop-less Inv-loop μ-loop
 loop-less c = omega (arith, ended (c .before .before .before .before .before .before .before .before), rest-length (c .before .before .before .before .before .before .before .before .before .before .before .before .loop .rest .now) (c .before .before .before .before .before .before .before .before .before .line-length .result + 1))
 
--- src/lib.rt:40:5
 loop-again : tie.Need-loop-again Inv-loop μ-loop
 loop-again c =
     let at = c .before .before .before .before .before .before .before .before .before .before .before .before in
@@ -128,11 +102,9 @@ loop-again c =
           (going-line _ _ _ _ _ _ (at .loop .inv .1) _ _ _ (space (c .before .before .before .before .before .before .before .before .before .before)) (c .before .before .before .before .answer .kept .1 .1 .0) (rw is at more) (rw (c .before .before .before .before .before .before .read .ensures, sub-zero, is) at (c .before .before .before .before .answer .ensures))),
     )
 
--- src/lib.rt:33:1
 same-length-3 : tie.Need-same-length-3 Inv-loop μ-loop
 same-length-3 c = c .before .loop .inv .0
 
--- src/lib.rt:33:1
 returns-3 : tie.Need-returns-3 Inv-loop μ-loop
 returns-3 c = done _ _ _ _ _ _ (c .before .loop .inv .1) (omega (arith, c .loop-test .left))
 

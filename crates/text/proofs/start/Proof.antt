@@ -5,41 +5,28 @@ use Rattle.closure.specs.Checked.{empty-passes}
 use Rattle.text.specs.Load.{overloaded-answers, loaded-answers}
 use Rattle.text.proofs.start.Statement.{statement}
 use Rattle.text.proofs.start.Tie as tie
-use Rattle.text.proofs.start.Reads as reads
-use Rattle.text.proofs.start.Lts as lts
-use Rattle.board.proofs.Board.empty.Reads as empty-reads
-use Rattle.replies.proofs.put_refusal.Reads as put-refusal-reads
-use Rattle.text.proofs.next.Reads as next-reads
 
--- src/lib.rt:76:13
 put-refusal-requires : tie.Need-put-refusal-requires
 put-refusal-requires c κs = search needs
 
--- src/lib.rt:78:20
 empty-requires : tie.Need-empty-requires
 empty-requires c κs = search needs
 
--- src/lib.rt:77:9
 same-length : tie.Need-same-length
 same-length c = search needs
 
--- src/lib.rt:77:9
 returns : tie.Need-returns
 returns c = overloaded-answers _ _ (c .empty .ensures) _ _ _ (c .before .before .before .before .before .if1 .taken) (search needs) (c .before .before .before .put-refusal .kept .0) (c .before .before .before .put-refusal .ensures)
 
--- src/lib.rt:83:10
 empty-requires-2 : tie.Need-empty-requires-2
 empty-requires-2 c κs = search needs
 
--- src/lib.rt:83:5
 next-requires : tie.Need-next-requires
 next-requires c κs = (rw (c .before .empty2 .ensures) (empty-passes 0 (omega arith)), search needs)
 
--- src/lib.rt:71:1
 same-length-2 : tie.Need-same-length-2
 same-length-2 c = search needs
 
--- src/lib.rt:71:1
 returns-2 : tie.Need-returns-2
 returns-2 c = loaded-answers _ _ (c .before .before .before .before .empty2 .ensures) _ _ (c .before .before .before .before .before .if1 .left) (c .before .before .next .ensures)
 

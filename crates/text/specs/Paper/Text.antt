@@ -10,7 +10,7 @@ use Rattle.board.specs.declared.Refusal.the-variants as Refused
 use Rattle.board.specs.Paper.Refusals.{numberOf}
 use Rattle.board.specs.Paper.Limits.{emptyBoard}
 use Rattle.entries.specs.declared.Entered.{Entered}
-use Rattle.entries.specs.Paper.Entry.{Entry, addition, other, arc, mark, cut}
+use Rattle.entries.specs.Paper.Entry.{addition, other, arc, mark, cut}
 use Rattle.entries.specs.Paper.Enter.{enter}
 use Rattle.entries.specs.Paper.Looking.{row, pair}
 use Rattle.entries.specs.Paper.Answers.{Reply, RowReply, PairReply, no-number, replyOf, rowReplyOf, pairReplyOf}

@@ -8,8 +8,6 @@ use borrow.Author.Tests.{eq-eqb, ne-eqb}
 use Rattle.text.specs.LineLaws.{lineLength, line-goes-on, line-ends, line-over}
 use Rattle.text.proofs.line.line_length.Statement.{statement}
 use Rattle.text.proofs.line.line_length.Tie as tie
-use Rattle.text.proofs.line.line_length.Reads as reads
-use Rattle.text.proofs.line.line_length.Lts as lts
 
 abbrev Inv-loop : tie.InvT-loop
 Inv-loop text n₀ n = (n ≤ length text) × (lineLength text ≡ n + lineLength (drop n text))
@@ -17,37 +15,30 @@ Inv-loop text n₀ n = (n ≤ length text) × (lineLength text ≡ n + lineLengt
 abbrev μ-loop : tie.MeasureT-loop
 μ-loop text n₀ n = length text - n
 
--- src/line.rt:10:5
 loop-holds : tie.Need-loop-holds Inv-loop μ-loop
 loop-holds c = search needs
 
--- src/line.rt:11:12
 shared-slice-read-if1 : tie.Need-shared-slice-read-if1 Inv-loop μ-loop
 shared-slice-read-if1 c = search needs
 
--- src/line.rt:12:13
 returns : tie.Need-returns Inv-loop μ-loop
 returns c =
     let at = c .before .before .before in
     let ends = line-ends (at .before .args .text .now) (at .loop .n) (c .before .before .loop-test .taken) (eq-eqb _ _ (c .if1 .taken)) in
     omega (arith, ends, at .loop .inv .1)
 
--- src/line.rt:14:9
 add-n : tie.Need-add-n Inv-loop μ-loop
 add-n c = search needs
 
--- src/line.rt:10:5
 loop-less : tie.Need-loop-less Inv-loop μ-loop
 loop-less c = search needs
 
--- src/line.rt:10:5
 loop-again : tie.Need-loop-again Inv-loop μ-loop
 loop-again c =
     let at = c .before .before .before in
     let more = line-goes-on (at .before .args .text .now) (at .loop .n) (c .before .before .loop-test .taken) (ne-eqb _ _ (c .if1 .left)) in
     (omega arith, omega (arith, more, at .loop .inv .1))
 
--- src/line.rt:6:1
 returns-2 : tie.Need-returns-2 Inv-loop μ-loop
 returns-2 c =
     let at = c .before in
