@@ -57,13 +57,13 @@ fn read_all(fd: i32, buffer: &mut [u8]) -> Input
 }
 
 // Whether all answers were written, and the board after the text.
-pub struct Answered {
+pub struct Served {
     pub complete: bool,
     pub board: Board,
 }
 
 // Answers a text, in pieces as large as the buffer.
-pub fn answer(bytes: &[u8]) -> Answered
+pub fn answer(bytes: &[u8]) -> Served
     ensures { λ r. ⌜ (r .complete ≡ true → r .board ≡ paper.answer (now (bytes .entry)) .board) ⌝ }
 {
     let mut out = io::large_buffer();
@@ -74,7 +74,7 @@ pub fn answer(bytes: &[u8]) -> Answered
     let mut rest = &bytes[read..];
     while io::write_all(STDOUT_FILENO, &out[0..written]) {
         if rest.len() == 0 {
-            return Answered {
+            return Served {
                 complete: true,
                 board,
             };
@@ -85,7 +85,7 @@ pub fn answer(bytes: &[u8]) -> Answered
         let read = piece.read;
         rest = &rest[read..];
     }
-    Answered {
+    Served {
         complete: false,
         board,
     }
@@ -100,8 +100,8 @@ pub fn run(fd: i32) {
         return;
     }
     let length = input.length;
-    let answered = answer(&buffer[0..length]);
-    if !answered.complete {
+    let served = answer(&buffer[0..length]);
+    if !served.complete {
         io::write_all(STDERR_FILENO, b"the answers could not be written\n");
     }
 }
