@@ -1,9 +1,10 @@
 -- "The text": from bytes to bytes.
 pub mod Paper
 pub mod Examples
--- every board on the way passes check 0, and no line is answered 0
+-- every board on the way passes check 0, so that no answer is 0; and demand 3 speaks of every text
 pub mod Checked
 pub mod NeverZero
+pub mod Calls
 -- what the code goes by: a line at a time, and a piece at a time
 pub mod LineLaws
 pub mod Carried

@@ -1,0 +1,67 @@
+-- The board after a text is the board after the entry calls of its lines: so demand 3 speaks of every text.
+use mathlib.Core.Path.{_≡_, refl, _∙_}
+use mathlib.Core.Bool.{Bool, true, false, cond}
+use mathlib.Core.List.{List, [], _∷_, _++_}
+use Prim.Native.Nat.{ℕ}
+use lib.Dec.{leb}
+use lib.ListN.{length}
+use Rattle.board.specs.declared.Board.{Board}
+use Rattle.board.specs.Paper.Limits.{emptyBoard}
+use Rattle.entries.specs.Paper.Entry.{Entry, addition, other, arc, mark, cut}
+use Rattle.entries.specs.Paper.Sequence.{byValue, Call, after}
+use Rattle.forms.specs.declared.Form.{Form}
+use Rattle.forms.specs.declared.Form.the-variants.{Addition, Arc, Mark, Cut, Row, Pair, Plan, Tally, Unknown}
+use Rattle.forms.specs.Paper.Forms.{formOf}
+use Rattle.text.specs.Paper.Lines.{Line, ended, unended, linesOf}
+use Rattle.text.specs.Paper.Text.{carriedOut, serve, loadLimit, answer}
+
+abbrev called : Entry → List Call
+called e = record { manner = byValue; entry = e } ∷ []
+
+-- the call that a form makes, if it makes an entry
+abbrev pub callOf : Form → List Call
+callOf (Addition l e d m) = called (addition l e d m)
+callOf (Arc x y) = called (other (arc x y))
+callOf (Mark j m) = called (other (mark j m))
+callOf (Cut j e d) = called (other (cut j e d))
+callOf (Row j) = []
+callOf (Pair x y) = []
+callOf (Plan n) = []
+callOf Tally = []
+callOf Unknown = []
+
+abbrev pub callsOf : List Line → List Call
+callsOf [] = []
+callsOf (ended l ∷ ls) = callOf (formOf l) ++ callsOf ls
+callsOf (unended l ∷ ls) = callsOf ls
+
+carried-after : (b : Board) (f : Form) (cs : List Call) → after (carriedOut b f .board) cs ≡ after b (callOf f ++ cs)
+unfolding carriedOut after
+carried-after b (Addition l e d m) cs = refl
+carried-after b (Arc x y) cs = refl
+carried-after b (Mark j m) cs = refl
+carried-after b (Cut j e d) cs = refl
+carried-after b (Row j) cs = refl
+carried-after b (Pair x y) cs = refl
+carried-after b (Plan n) cs = refl
+carried-after b Tally cs = refl
+carried-after b Unknown cs = refl
+
+serve-after : (b : Board) (ls : List Line) → serve b ls .board ≡ after b (callsOf ls)
+unfolding serve after
+serve-after b [] = refl
+serve-after b (ended l ∷ ls) = serve-after (carriedOut b (formOf l) .board) ls ∙ carried-after b (formOf l) (callsOf ls)
+serve-after b (unended l ∷ ls) = serve-after b ls
+
+-- the calls of a text: none where it is too long
+abbrev pub textCalls : List ℕ → List Call
+textCalls t = cond (leb (length t) loadLimit) (callsOf (linesOf t)) []
+
+pub text-after : (t : List ℕ) → answer t .board ≡ after (emptyBoard 0) (textCalls t)
+unfolding answer after
+text-after t = go (leb (length t) loadLimit) refl
+  where
+    go : (x : Bool) → leb (length t) loadLimit ≡ x
+        → answer t .board ≡ after (emptyBoard 0) (cond (leb (length t) loadLimit) (callsOf (linesOf t)) [])
+    go true e = rw e (serve-after (emptyBoard 0) (linesOf t))
+    go false e = rw e
