@@ -9,6 +9,7 @@ pub mod FindComplete
 pub mod Measure
 pub mod Closes
 pub mod Stepping
+pub mod Precedence
 pub mod Applies
 pub mod Checked
 pub mod ClosureLeast

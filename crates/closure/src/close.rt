@@ -1,4 +1,5 @@
 // The closure: the rules applied until nothing is left to infer, or a mark would have to change.
+use crate::precedence::propagate;
 use board::Board;
 use rules::Found;
 use search::find;
@@ -8,12 +9,17 @@ ghost use Rattle.board.specs.Paper.Limits.{Within};
 ghost use Rattle.updates.specs.Outcome.{outcomeOf};
 ghost use Rattle.closure.specs.Closing as closing;
 
-// Which inference comes first doesn't matter: any run of them ends in the same board.
+// Which inference comes first doesn't matter: any run of them ends in the same board. Precedence moves most windows at the
+// least cost, so it goes first.
 pub fn closure(b: Board) -> Outcome
     requires { ⌜ Within b ⌝ }
     ensures { λ r. ⌜ outcomeOf r ≡ closing.closure b ⌝ }
 {
-    let mut c = b;
+    let start = propagate(b);
+    if !start.possible {
+        return start;
+    }
+    let mut c = start.board;
     loop {
         let found = find(c);
         let Found::Inferred(fact) = found else {

@@ -1,3 +1,5 @@
-// The closure of a board: finding what a rule infers, applying it, and repeating the two; and check 0.
+// The closure of a board: precedence propagation, then finding what a rule infers, applying it, and repeating the two; and
+// check 0.
 pub mod check;
 pub mod close;
+pub mod precedence;

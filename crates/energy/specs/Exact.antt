@@ -38,7 +38,7 @@ times-within b h late = record { time = λ k. ranges b h k .latest }
 pub lengths-within : (b : Board) → Within b → Lengths (b .lengths)
 lengths-within b h = record { low = λ k. ranges b h k .low; high = λ k. ranges b h k .high }
 
-bound-is : (b : Board) (s : Side) (k : ℕ) → boundAt s (timesOf b s) k ≡ bound s (rowOf b k)
+pub bound-is : (b : Board) (s : Side) (k : ℕ) → boundAt s (timesOf b s) k ≡ bound s (rowOf b k)
 bound-is b early k = refl
 bound-is b late k = refl
 
@@ -54,10 +54,11 @@ greatest-same : (P Q : ℤ → Type 0) → ((z : ℤ) → P z → Q z) → ((z :
 greatest-same P Q f g none h = λ z q. h z (g z q)
 greatest-same P Q f g (some z) h = (f z (h .0), λ y q. h .1 y (g y q))
 
-module _ (b : Board) (h : Within b) (s : Side) (j w : ℕ) (members : (k : ℕ) → Decides (bit w k) (Valid (view b) k × Beyond (view b) s k j)) where
-  sum-beyond : (z : ℤ) → Sum s (timesOf b s) (b .lengths) w z → SumBeyond (view b) s j z
-  sum-beyond z p =
-      let valid : (k : ℕ) → p .set k ≡ true → Valid (view b) k × Beyond (view b) s k j = λ k e. members k .yes (p .inside k e) in
+module _ (b : Board) (h : Within b) (s : Side) (j w : ℕ) where
+  pub sum-beyond : ((k : ℕ) → bit w k ≡ true → Valid (view b) k × Beyond (view b) s k j)
+      → (z : ℤ) → Sum s (timesOf b s) (b .lengths) w z → SumBeyond (view b) s j z
+  sum-beyond members z p =
+      let valid : (k : ℕ) → p .set k ≡ true → Valid (view b) k × Beyond (view b) s k j = λ k e. members k (p .inside k e) in
       record {
         set = p .set;
         beyond = valid;
@@ -67,6 +68,7 @@ module _ (b : Board) (h : Within b) (s : Side) (j w : ℕ) (members : (k : ℕ) 
         is = cc (p .is, bound-is b s (p .first), energy-is b h (p .set) (λ k e. valid k e .0));
       }
 
+module _ (b : Board) (h : Within b) (s : Side) (j w : ℕ) (members : (k : ℕ) → Decides (bit w k) (Valid (view b) k × Beyond (view b) s k j)) where
   beyond-sum : (z : ℤ) → SumBeyond (view b) s j z → Sum s (timesOf b s) (b .lengths) w z
   beyond-sum z p =
       record {
@@ -79,7 +81,7 @@ module _ (b : Board) (h : Within b) (s : Side) (j w : ℕ) (members : (k : ℕ) 
       }
 
   pub greatest-beyond : (o : Option ℤ) → Greatest (Sum s (timesOf b s) (b .lengths) w) o → Greatest (SumBeyond (view b) s j) o
-  greatest-beyond = greatest-same _ _ sum-beyond beyond-sum
+  greatest-beyond = greatest-same _ _ (sum-beyond b h s j w λ k e. members k .yes e) beyond-sum
 
 -- ---- in the paper's words
 

@@ -65,7 +65,7 @@ least-time {s} hours h = let t = turned-time s _ (hours .time (h .first)) in rec
 pub least-moderate : {s : Side} {times : List ℤ} {left : ℕ} {low : ℤ} → Times times → LeastBound s times left low → Moderate low
 least-moderate hours h = time-moderate (least-time hours h)
 
-sum-range : {s : Side} {times lengths : List ℤ} {w : ℕ} {z : ℤ} → Times times → Lengths lengths → Sum s times lengths w z
+pub sum-range : {s : Side} {times lengths : List ℤ} {w : ℕ} {z : ℤ} → Times times → Lengths lengths → Sum s times lengths w z
     → (firstMinute ≤ℤ z) × (z ≤ℤ pos 1140000)
 sum-range {s} {times} {lengths} hours work q =
     let t = turned-time s _ (hours .time (q .first)) in

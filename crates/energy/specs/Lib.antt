@@ -2,5 +2,6 @@
 pub mod Energy
 pub mod Members
 pub mod Laws
+pub mod Precedence
 pub mod SumBeyond
 pub mod Exact

@@ -9,6 +9,8 @@ ghost use Rattle.board.specs.Paper.Limits.{jobLimit};
 ghost use Rattle.board.specs.Paper.Values as paper;
 ghost use Rattle.energy.specs.Energy as energy;
 
+pub mod precedence;
+
 // The bound that some jobs leave to another: none where there are no such jobs.
 pub enum EnergyBound {
     Unbounded,

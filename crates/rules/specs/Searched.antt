@@ -28,10 +28,15 @@ module _ (v : View) where
     pub exclude : Valid v i → Arc v i k → Arc v k i → ⊥
     pub order : D v k <ℤ (E v i +ℤ L v i +ℤ L v k) → Arc v k i
 
-  -- a row of the pairs
-  pub record RowObeys (i : ℕ) : Type 0 where
-    pub job : JobObeys i
-    pub pairs : (k : ℕ) → Live v k → i ≢ k → PairObeys i k
+  -- a row of the pairs, and all of them
+  abbrev pub RowObeys : ℕ → Type 0
+  RowObeys i = (k : ℕ) → Live v k × (i ≢ k) → PairObeys i k
+
+  abbrev pub PairsObey : Type 0
+  PairsObey = (i : ℕ) → Live v i → RowObeys i
+
+  abbrev pub JobsObey : Type 0
+  JobsObey = (i : ℕ) → Live v i → JobObeys i
 
   -- nothing can be inferred of a pair that is joined one way alone, from k to i
   pub joined-obeys : (i k : ℕ) → (Arc v i k → ⊥) → Arc v k i → PairObeys i k
@@ -42,14 +47,14 @@ module _ (v : View) where
         order = λ _. arc;
       }
 
-  -- row by row, the rules are obeyed
-  pub rows-obey : ((i k : ℕ) → Arc v i k → Live v i × Live v k × (i ≢ k)) → ((i : ℕ) → Live v i → RowObeys i) → Obeys v
-  rows-obey joins rows _ (r1 a b c la vb lc ne ab bc) =
+  -- at each pair and at each job, the rules are obeyed
+  pub all-obey : ((i k : ℕ) → Arc v i k → Live v i × Live v k × (i ≢ k)) → PairsObey → JobsObey → Obeys v
+  all-obey joins pairs jobs _ (r1 a b c la vb lc ne ab bc) =
       let (_, lb, ab-ne) = joins a b ab in
-      (la .0, lc .0, λ _ _. rows a la .pairs b lb ab-ne .join vb ab c bc ne)
-  rows-obey joins rows _ (r2 a b va lb ab ba) =
+      (la .0, lc .0, λ _ _. pairs a la b (lb, ab-ne) .join vb ab c bc ne)
+  all-obey joins pairs jobs _ (r2 a b va lb ab ba) =
       let (la, _, ne) = joins a b ab in
-      absurd (rows a la .pairs b lb ne .exclude va ab ba)
-  rows-obey joins rows _ (r3 a b la lb ne h) = (lb .0, la .0, λ _ _. rows a la .pairs b lb ne .order h)
-  rows-obey joins rows _ (r45 s j S m lj p) = (lj .0, λ _. rows j lj .job .pushed s S m p)
-  rows-obey joins rows _ (r6 j lj h) = absurd (rows j lj .job .room h)
+      absurd (pairs a la b (lb, ne) .exclude va ab ba)
+  all-obey joins pairs jobs _ (r3 a b la lb ne h) = (lb .0, la .0, λ _ _. pairs a la b (lb, ne) .order h)
+  all-obey joins pairs jobs _ (r45 s j S m lj p) = (lj .0, λ _. jobs j lj .pushed s S m p)
+  all-obey joins pairs jobs _ (r6 j lj h) = absurd (jobs j lj .room h)

@@ -1,8 +1,9 @@
--- The walk over the ordered pairs of live jobs: the rows that are left and, in a row, the pairs that are left. All others
--- have been searched, and nothing is left to infer there.
+-- The walks over the ordered pairs of live jobs and over the jobs alone: the rows that are left, in a row the pairs that are
+-- left, and the jobs that are left. All others have been searched, and nothing is left to infer there.
 use mathlib.Core.Path.{_≡_, refl, ap, _∙_}
 use mathlib.Core.Logic.{_≢_}
 use mathlib.Core.Bool.{Bool}
+use mathlib.Core.Option.{Option, none, some}
 use Prim.Native.Nat.{ℕ, _<_, _^_}
 use lib.IntN.{ℤ, _+ℤ_}
 use lib.ListN.{getD}
@@ -13,6 +14,7 @@ use Rattle.words.specs.Walk.{Left, none-left}
 use Rattle.minutes.specs.Bools.{is-true, refuted}
 use Rattle.board.specs.declared.Board.{Board}
 use Rattle.board.specs.Paper.View.{View, Live, Valid, Arc, view}
+use Rattle.board.specs.Paper.Facts.{Fact}
 use Rattle.board.specs.Paper.Rules.{E, D, L}
 use Rattle.board.specs.Paper.Limits.{jobLimit, Within}
 use Rattle.board.specs.Tests.Live.{live, valid}
@@ -21,7 +23,7 @@ use Rattle.board.specs.Tests.Decides.{Decides, retested, _and_, negated, holds,
 use Rattle.board.specs.Inference.Infers.{Obeys}
 use Rattle.rules.specs.JobSearched.{JobRead}
 use Rattle.rules.specs.PairSearched.{PairRead}
-use Rattle.rules.specs.Searched.{JobObeys, PairObeys, RowObeys, joined-obeys, rows-obey}
+use Rattle.rules.specs.Searched.{Searched, JobObeys, PairObeys, RowObeys, PairsObey, JobsObey, joined-obeys, all-obey}
 
 -- the jobs to pair with i: a pair with an arc to i alone needs no search
 abbrev pub paired : ℕ → ℕ → ℕ → ℕ → ℕ
@@ -31,15 +33,17 @@ paired lives i before after = difference jobLimit (without jobLimit lives i) (di
 abbrev pub RowsLeft : View → ℕ → Type 0
 RowsLeft v = Left jobLimit (Live v) (RowObeys v)
 
+-- the jobs that are left
+abbrev pub JobsLeft : View → ℕ → Type 0
+JobsLeft v = Left jobLimit (Live v) (JobObeys v)
+
 -- the pairs of row i that are left
 abbrev pub PairsLeft : View → ℕ → ℕ → Type 0
 PairsLeft v i = Left jobLimit (λ k. Live v k × (i ≢ k)) (PairObeys v i)
 
--- row i is being searched: nothing is left to infer of the job alone, and once nothing is left in its pairs the walk goes on
--- with `rows`
+-- row i is being searched: once nothing is left in its pairs the walk goes on with `rows`
 pub record InRow (b : Board) (valids rows i after before : ℕ) (end : ℤ) : Type 0 where
   pub live : Live (view b) i
-  pub job : JobObeys (view b) i
   pub onward : RowObeys (view b) i → RowsLeft (view b) rows
   pub is-valid : (x : ℕ) → bit valids x ≡ valid (view b) x
   pub is-after : after ≡ getD (b .after) i 0
@@ -50,9 +54,9 @@ module _ (b : Board) (h : Within b) (lives : ℕ) (width : lives < 2 ^ jobLimit)
   live-bit : (x : ℕ) → Decides (bit lives x) (Live (view b) x)
   live-bit x = retested (is-live x) (live-is (view b) x)
 
-  -- at first all rows are left
-  pub rows-left : RowsLeft (view b) lives
-  rows-left =
+  -- at first all live jobs are left
+  pub all-left : (Q : ℕ → Type 0) → Left jobLimit (Live (view b)) Q lives
+  all-left Q =
       record {
         width = width;
         member = λ x e. live-bit x .yes e;
@@ -89,7 +93,7 @@ module _ (b : Board) (h : Within b) (lives : ℕ) (width : lives < 2 ^ jobLimit)
         unsearched : (k : ℕ) → Live (view b) k × (i ≢ k) → (((Arc (view b) k i × (Arc (view b) i k → ⊥)) → ⊥) → ⊥) → PairObeys (view b) i k
         unsearched k l joined =
             joined-obeys (view b) i k
-            (λ forth. joined λ (_, none). none forth)
+            (λ forth. joined λ (_, apart). apart forth)
             (is-true (view b .arc k i) λ e. joined λ (back, _). refuted e back)
 
 -- what the search reads at a job and at a pair
@@ -125,12 +129,13 @@ pair-read b h valids rows i after before end r k (l, ne) late is-late =
       is-late = is-late ∙ ap (λ x. ltZ (D (view b) k) (x +ℤ L (view b) k)) (r .is-end);
     }
 
--- with no row left the rules are obeyed
-pub rows-done : (b : Board) → Within b → RowsLeft (view b) 0 → Obeys (view b)
-rows-done b h left = rows-obey (view b) (h .limits .arcs) (none-left jobLimit _ _ left)
-
 -- with no pair left the row is obeyed
 pub row-done : (b : Board) (valids rows i after before : ℕ) (end : ℤ) → InRow b valids rows i after before end
     → PairsLeft (view b) i 0 → RowsLeft (view b) rows
-row-done b valids rows i after before end r left =
-    r .onward (record { job = r .job; pairs = λ k l ne. none-left jobLimit _ _ left k (l, ne) })
+row-done b valids rows i after before end r left = r .onward (none-left jobLimit _ _ left)
+
+-- where the pairs obey the rules, what is found at the jobs is found in the whole view
+pub jobs-searched : (b : Board) → Within b → PairsObey (view b) → (o : Option Fact)
+    → Searched (view b) (JobsObey (view b)) o → Searched (view b) (Obeys (view b)) o
+jobs-searched b h pairs (some f) found = found
+jobs-searched b h pairs none jobs = all-obey (view b) (h .limits .arcs) pairs jobs

@@ -24,7 +24,7 @@ module _ (n : ℕ) (P Q R : View → Type 0) (b : Board)
     (kept : (v w : View) → v ⊑ w → P v → P w)
     (join : (w : View) → P w → Q w → R w)
     (split : (w : View) → view b ⊑ w → Obeys w → R w → P w × Q w) where
-  onward : (c : Board) (o : Option Board) → Extension n P b c → Extends (c .jobs) Q c o → Extends n R b o
+  pub onward : (c : Board) (o : Option Board) → Extension n P b c → Extends (c .jobs) Q c o → Extends n R b o
   onward c none x y = λ w up obeys r. let (p, q) = split w up obeys r in y w (x .least w up obeys p) obeys q
   onward c (some d) x y =
       record {

@@ -1,0 +1,43 @@
+-- `energy::precedence::end` meets its contract: a time and a length are far from the ends of an i32. Assumes nothing.
+use borrow.Author.Needs.{needs}
+use mathlib.Core.Path.{_≡_, _∙_}
+use mir.Syntax.{w32}
+use mir.Val.{toZ, ofZ}
+use mir.ValLaws.{toZ-ofZ}
+use Rattle.board.specs.Tests.Ranges.{time-moderate}
+use Rattle.board.specs.Paper.Values.{sideOf}
+use Rattle.energy.specs.Energy.{boundAt}
+use Rattle.energy.specs.Laws.{turned-time, length-fits, length-moderate}
+use Rattle.energy.proofs.precedence.end.Statement.{statement}
+use Rattle.energy.proofs.precedence.end.Tie as tie
+
+bound-requires : tie.Need-bound-requires
+bound-requires c κs = search needs
+
+mul-sum : tie.Need-mul-sum
+mul-sum c = search needs
+
+element-copy-out-sum : tie.Need-element-copy-out-sum
+element-copy-out-sum c = search needs
+
+-- the bound, as the machine reads it back from its bits
+low-is : (c : tie.After-bound)
+    → toZ w32 (ofZ w32 (c .bound .result)) ≡ boundAt (sideOf (c .before .args .side)) (c .before .args .times .now) (c .before .args .k)
+low-is c = toZ-ofZ w32 _ (record { sfits = c .bound .ok }) ∙ c .bound .ensures
+
+sum-requires : tie.Need-sum-requires
+sum-requires c κs =
+    let start = c .before .before in
+    let k = start .args .k in
+    let (hours, work, _) = start .pre in
+    let t = turned-time (sideOf (start .args .side)) _ (hours .time k) in
+    (rw (low-is (c .before)) (time-moderate t), simp (toZ-ofZ, length-fits work k) (length-moderate work k))
+
+returns : tie.Need-returns
+returns c =
+    let start = c .before .before .before in
+    let length = length-fits (start .pre .1) (start .args .k) in
+    toZ-ofZ w32 _ (record { sfits = c .sum .ok }) ∙ simp (toZ-ofZ, length) at (rw (low-is (c .before .before)) at (c .sum .ensures))
+
+pub end-spec : {M : Type 1} → statement M
+end-spec = tie.close (tie.spec bound-requires mul-sum element-copy-out-sum sum-requires returns)

@@ -1,0 +1,46 @@
+// Precedence alone: R4 and R5 with sets of one, which cost one walk over the jobs beyond a job.
+use crate::EnergyBound;
+use crate::bound;
+use crate::turned;
+use board::Board;
+use board::facts::Side;
+ghost use mathlib.Core.Path.{_≡_};
+ghost use Prim.Native.Nat.{_<_};
+ghost use lib.IntN.{_+ℤ_};
+ghost use Rattle.board.specs.Paper.Limits.{jobLimit};
+ghost use Rattle.board.specs.Paper.Values.{sideOf};
+ghost use Rattle.energy.specs.Energy.{boundAt, lengthAt, boundOf, Times, Lengths};
+ghost use Rattle.energy.specs.Precedence.{Pushes};
+
+// The bound that the job at place k leaves to the jobs beyond it.
+fn end(side: Side, times: &[i32; Board::JOBS], lengths: &[i32; Board::JOBS], k: usize) -> i32
+    requires { ⌜ Times (now times) × Lengths (now lengths) × (k < jobLimit) ⌝ }
+    ensures { λ r. ⌜ r ≡ boundAt (sideOf side) (now (times .entry)) k +ℤ lengthAt (now (lengths .entry)) k ⌝ }
+{
+    minutes::sum(bound(side, times, k), lengths[k])
+}
+
+// The greatest bound that one job of the set leaves to `job`, where it is above that of `job`.
+pub fn push(
+    side: Side,
+    times: &[i32; Board::JOBS],
+    lengths: &[i32; Board::JOBS],
+    set: u64,
+    job: usize,
+) -> EnergyBound
+    requires { ⌜ Times (now times) × Lengths (now lengths) × (job < jobLimit) ⌝ }
+    ensures { λ r. ⌜ Pushes (sideOf side) (now (times .entry)) (now (lengths .entry)) set job (boundOf (sideOf side) r) ⌝ }
+{
+    let own = bound(side, times, job);
+    let mut best = own;
+    let mut left = set;
+    while left != 0 {
+        let k = words::lowest(left);
+        left = words::without(left, k);
+        best = minutes::greater(best, end(side, times, lengths, k));
+    }
+    if own < best {
+        return EnergyBound::At(turned(side, best));
+    }
+    EnergyBound::Unbounded
+}
