@@ -62,6 +62,9 @@ turned-greatest P s best t e = subst⁻¹ (λ z. Greatest P (some z)) (ap (turne
 least-time : {s : Side} {times : List ℤ} {left : ℕ} {low : ℤ} → Times times → LeastBound s times left low → IsTime low
 least-time {s} hours h = let t = turned-time s _ (hours .time (h .first)) in record { low = omega (whole, h .is, t .low); high = omega (whole, h .is, t .high) }
 
+pub moderate-fits : (z : ℤ) → Moderate z → SFits w32 z
+moderate-fits z m = fits z (omega whole) (omega whole)
+
 pub least-moderate : {s : Side} {times : List ℤ} {left : ℕ} {low : ℤ} → Times times → LeastBound s times left low → Moderate low
 least-moderate hours h = time-moderate (least-time hours h)
 

@@ -1,6 +1,7 @@
-// Precedence alone: R4 and R5 with sets of one, which cost one walk over the jobs beyond a job.
+// Precedence: R4 and R5 with sets of one job and with the set of all, which cost a walk over the jobs beyond a job each.
 use crate::EnergyBound;
 use crate::bound;
+use crate::in_play;
 use crate::turned;
 use board::Board;
 use board::facts::Side;
@@ -10,7 +11,7 @@ ghost use lib.IntN.{_+ℤ_};
 ghost use Rattle.board.specs.Paper.Limits.{jobLimit};
 ghost use Rattle.board.specs.Paper.Values.{sideOf};
 ghost use Rattle.energy.specs.Energy.{boundAt, lengthAt, boundOf, Times, Lengths};
-ghost use Rattle.energy.specs.Precedence.{Pushes};
+ghost use Rattle.energy.specs.Precedence.{Best, Pushes};
 
 // The bound that the job at place k leaves to the jobs beyond it.
 fn end(side: Side, times: &[i32; Board::JOBS], lengths: &[i32; Board::JOBS], k: usize) -> i32
@@ -20,7 +21,46 @@ fn end(side: Side, times: &[i32; Board::JOBS], lengths: &[i32; Board::JOBS], k: 
     minutes::sum(bound(side, times, k), lengths[k])
 }
 
-// The greatest bound that one job of the set leaves to `job`, where it is above that of `job`.
+// The greatest bound that one job of the set leaves to `job`, or that of `job` itself.
+fn push_singly(
+    side: Side,
+    times: &[i32; Board::JOBS],
+    lengths: &[i32; Board::JOBS],
+    set: u64,
+    job: usize,
+) -> i32
+    requires { ⌜ Times (now times) × Lengths (now lengths) × (job < jobLimit) ⌝ }
+    ensures { λ r. ⌜ Best (sideOf side) (now (times .entry)) (now (lengths .entry)) set job r ⌝ }
+{
+    let mut best = bound(side, times, job);
+    let mut left = set;
+    while left != 0 {
+        let k = words::lowest(left);
+        left = words::without(left, k);
+        best = minutes::greater(best, end(side, times, lengths, k));
+    }
+    best
+}
+
+// The bound that all jobs of the set together leave to `job`, or that of `job` itself where there are none.
+fn push_together(
+    side: Side,
+    times: &[i32; Board::JOBS],
+    lengths: &[i32; Board::JOBS],
+    set: u64,
+    job: usize,
+) -> i32
+    requires { ⌜ Times (now times) × Lengths (now lengths) × (job < jobLimit) ⌝ }
+    ensures { λ r. ⌜ Best (sideOf side) (now (times .entry)) (now (lengths .entry)) set job r ⌝ }
+{
+    let all = in_play(side, times, lengths, set, Board::FIRST_MINUTE - 1);
+    if all.set == 0 {
+        return bound(side, times, job);
+    }
+    minutes::sum(all.least, all.total)
+}
+
+// The greater of the two, where it is above the bound of `job`.
 pub fn push(
     side: Side,
     times: &[i32; Board::JOBS],
@@ -31,15 +71,10 @@ pub fn push(
     requires { ⌜ Times (now times) × Lengths (now lengths) × (job < jobLimit) ⌝ }
     ensures { λ r. ⌜ Pushes (sideOf side) (now (times .entry)) (now (lengths .entry)) set job (boundOf (sideOf side) r) ⌝ }
 {
-    let own = bound(side, times, job);
-    let mut best = own;
-    let mut left = set;
-    while left != 0 {
-        let k = words::lowest(left);
-        left = words::without(left, k);
-        best = minutes::greater(best, end(side, times, lengths, k));
-    }
-    if own < best {
+    let singly = push_singly(side, times, lengths, set, job);
+    let together = push_together(side, times, lengths, set, job);
+    let best = minutes::greater(singly, together);
+    if bound(side, times, job) < best {
         return EnergyBound::At(turned(side, best));
     }
     EnergyBound::Unbounded

@@ -7,19 +7,15 @@ use mathlib.Core.Logic.{_≢_}
 use Prim.Native.Nat.{ℕ}
 use lib.IntN.{ℤ, _+ℤ_, _-ℤ_}
 use mir.Syntax.{w32}
-use mir.Val.{SFits, toZ, ofZ}
+use mir.Val.{toZ, ofZ}
 use mir.ValLaws.{toZ-ofZ}
-use Rattle.minutes.specs.Linear.{whole}
-use Rattle.minutes.specs.Time.{Moderate, fits, greater}
+use Rattle.minutes.specs.Time.{Moderate, greater}
 use Rattle.board.specs.Paper.View.{Side}
 use Rattle.board.specs.Paper.Values.{sideOf}
 use Rattle.energy.specs.Energy.{load, LeastBound, Above}
-use Rattle.energy.specs.Laws.{InPlay, turned-greatest, load-moderate, least-moderate, best-moderate, top-moderate, all-in-play, none-in-play, no-sum, round, round-falls}
+use Rattle.energy.specs.Laws.{InPlay, turned-greatest, moderate-fits, load-moderate, least-moderate, best-moderate, top-moderate, all-in-play, none-in-play, no-sum, round, round-falls}
 use Rattle.energy.proofs.energy_bound.Statement.{statement}
 use Rattle.energy.proofs.energy_bound.Tie as tie
-
-moderate-fits : (z : ℤ) → Moderate z → SFits w32 z
-moderate-fits z m = fits z (omega whole) (omega whole)
 
 same-floor : {s : Side} {times : List ℤ} {w kept : ℕ} {floor top : ℤ} → floor ≡ top → Above s times w floor kept → Above s times w top kept
 same-floor {s} {times} {w} {kept} e = subst (λ z. Above s times w z kept) e

@@ -1,102 +1,57 @@
--- `energy::precedence::push` meets its contract. The loop's invariant: the best so far is the job's own bound or a sum of a job
--- of the set; the measure is the word of what is left. Assumes nothing.
+-- `energy::precedence::push` meets its contract. Assumes nothing.
 use borrow.Author.Needs.{needs}
-use mathlib.Core.Path.{_≡_, _∙_}
-use mathlib.Core.Logic.{inl}
-use mathlib.Core.Bool.{true}
-use Prim.Native.Nat.{ℕ, _^_, _<_}
+use mathlib.Core.Path.{_∙_}
 use mir.Syntax.{w32}
 use mir.Val.{toZ, ofZ}
 use mir.ValLaws.{toZ-ofZ}
-use Rattle.words.specs.Bit.{bit}
-use Rattle.words.specs.BitLaws.{without-lt}
-use Rattle.words.specs.Walk.{without-inside, walk-falls}
 use Rattle.board.specs.Paper.Values.{sideOf}
-use Rattle.energy.specs.Energy.{boundAt}
-use Rattle.energy.specs.Precedence.{Best, single, better, pushes, best-moderate}
+use Rattle.energy.specs.Precedence.{Best, better, pushes, best-moderate}
 use Rattle.energy.proofs.precedence.push.Statement.{statement}
 use Rattle.energy.proofs.precedence.push.Tie as tie
 
-abbrev Inv-loop : tie.InvT-loop
-Inv-loop side times lengths set job own best₀ left₀ best left =
-    (left < 2 ^ 64) × ((x : ℕ) → bit left x ≡ true → bit set x ≡ true) × Best (sideOf side) times lengths set job (toZ w32 best)
+-- the greater of the two is the job's own bound or a sum
+best : (c : tie.After-greater) → let a = c .before .before .before .args in
+    Best (sideOf (a .side)) (a .times .now) (a .lengths .now) (a .set) (a .job) (toZ w32 (ofZ w32 (c .greater .result)))
+best c =
+    let is = toZ-ofZ w32 _ (record { sfits = c .greater .ok }) ∙ c .greater .ensures in
+    let singly = c .before .before .push-singly in
+    let all = c .before .push-together in
+    let one = toZ-ofZ w32 (singly .result) (record { sfits = singly .ok }) in
+    let two = toZ-ofZ w32 (all .result) (record { sfits = all .ok }) in
+    rw (is, one, two) (better _ _ _ _ _ _ _ (singly .ensures) (all .ensures))
 
-abbrev μ-loop : tie.MeasureT-loop
-μ-loop side times lengths set job own best₀ left₀ best left = left
+push-singly-requires : tie.Need-push-singly-requires
+push-singly-requires c κs = search needs
 
-bound-requires : tie.Need-bound-requires Inv-loop μ-loop
-bound-requires c κs = search needs
+push-together-requires : tie.Need-push-together-requires
+push-together-requires c κs = search needs
 
--- the job's own bound, as the machine reads it back from its bits
-own-is : (c : tie.After-bound Inv-loop μ-loop)
-    → toZ w32 (ofZ w32 (c .bound .result)) ≡ boundAt (sideOf (c .before .args .side)) (c .before .args .times .now) (c .before .args .job)
-own-is c = toZ-ofZ w32 _ (record { sfits = c .bound .ok }) ∙ c .bound .ensures
-
-loop-holds : tie.Need-loop-holds Inv-loop μ-loop
-loop-holds c = (c .before .fits .set .fits, λ x e. e, inl (own-is c))
-
-lowest-requires : tie.Need-lowest-requires Inv-loop μ-loop
-lowest-requires c κs = search needs
-
-without-requires : tie.Need-without-requires Inv-loop μ-loop
-without-requires c κs = search needs
-
-end-requires : tie.Need-end-requires Inv-loop μ-loop
-end-requires c κs = search needs
-
-greater-requires : tie.Need-greater-requires Inv-loop μ-loop
+greater-requires : tie.Need-greater-requires
 greater-requires c κs = search needs
 
-loop-less : tie.Need-loop-less Inv-loop μ-loop
-loop-less c =
-    let s = c .before .before in
-    walk-falls (s .before .before .before .loop .inv .0) (s .before .lowest .ensures) (s .without .ensures)
+bound-requires : tie.Need-bound-requires
+bound-requires c κs = search needs
 
-loop-again : tie.Need-loop-again Inv-loop μ-loop
-loop-again c =
-    let s = c .before .before in
-    let low = s .before .lowest in
-    let k = low .result in
-    let at = s .before .before .before in
-    let (fits, inside, best) = at .loop .inv in
-    let end = c .before .end in
-    let end-is = toZ-ofZ w32 _ (record { sfits = end .ok }) ∙ end .ensures in
-    let top = toZ-ofZ w32 _ (record { sfits = c .greater .ok }) ∙ (rw end-is at (c .greater .ensures)) in
-    rw (s .without .ensures, top) (
-      without-lt 64 (at .loop .left) k fits,
-      λ x e. inside x (without-inside 64 (at .loop .left) k fits (low .ensures .width) x e),
-      better _ _ _ _ _ _ _ best (single _ _ _ _ k (low .ensures .width) (inside k (low .ensures .member))),
-    )
+turned-requires : tie.Need-turned-requires
+turned-requires c κs = let (hours, work, _) = c .before .before .before .before .before .pre in best-moderate _ _ _ _ hours work _ _ (best (c .before .before))
 
-turned-requires : tie.Need-turned-requires Inv-loop μ-loop
-turned-requires c κs =
-    let at = c .before .before in
-    let (hours, work, _) = at .before .before .pre in
-    best-moderate _ _ _ _ hours work _ _ (at .loop .inv .2)
-
-returns : tie.Need-returns Inv-loop μ-loop
-returns c =
-    let at = c .before .before .before in
+returns : tie.Need-returns
+returns c = 
+    let own = toZ-ofZ w32 _ (record { sfits = c .before .before .bound .ok }) ∙ c .before .before .bound .ensures in
     let back = toZ-ofZ w32 _ (record { sfits = c .turned .ok }) ∙ c .turned .ensures in
-    pushes _ _ _ _ _ _ _ (at .loop .inv .2) (rw (own-is (at .before)) at (c .before .if1 .taken)) back
+    pushes _ _ _ _ _ _ _ (best (c .before .before .before)) (rw own at (c .before .if1 .taken)) back
 
-returns-2 : tie.Need-returns-2 Inv-loop μ-loop
-returns-2 c = tt
+returns-2 : tie.Need-returns-2
+returns-2 c = search needs
 
 pub push-spec : {M : Type 1} → statement M
 push-spec =
     tie.close
     (tie.spec
-    Inv-loop
-    μ-loop
-    bound-requires
-    loop-holds
-    lowest-requires
-    without-requires
-    end-requires
+    push-singly-requires
+    push-together-requires
     greater-requires
-    loop-less
-    loop-again
+    bound-requires
     turned-requires
     returns
     returns-2)
