@@ -10,6 +10,7 @@ pub mod Measure
 pub mod Closes
 pub mod Stepping
 pub mod Precedence
+pub mod Joins
 pub mod Applies
 pub mod Checked
 pub mod ClosureLeast

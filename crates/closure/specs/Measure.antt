@@ -102,6 +102,10 @@ module _ (b c : Board) (more : Above (b .jobs) b c) where
   row-mono : (i : ℕ) → count jobLimit (missing (view c) i) ≤ count jobLimit (missing (view b) i)
   row-mono i = count-mono jobLimit _ _ λ k _. missing-mono i k
 
+  pub measure-mono : measure c ≤ measure b
+  unfolding measure
+  measure-mono = omega (arith, count-mono jobLimit _ _ (λ k _. weight-mono k), count-mono jobLimit _ _ (λ i _. row-mono i))
+
   -- a live job loses room or is live no more
   job-falls : (j : ℕ) → Live (view b) j → (Live (view c) j → room (rowOf c j) < room (rowOf b j)) → measure c < measure b
   unfolding measure

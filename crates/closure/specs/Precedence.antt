@@ -68,12 +68,13 @@ pub record InPass (b : Board) (valids : ℕ) (c : Board) (left : ℕ) : Type 0 w
 
 module _ (b : Board) (valids : ℕ) (c : Board) (left : ℕ) (p : InPass b valids c left) where
   -- valid jobs stay valid
+  pub pass-sound : (x : ℕ) → bit valids x ≡ true → Valid (view c) x
+  pass-sound x e = valid-up (view b) (view c) (p .reached .more .above) x (p .sound x e)
+
   pub pass-infers : (s : Side) (j : ℕ) (z : ℤ)
       → Pushes s (onSide s (c .earliest) (c .latest)) (c .lengths) (intersection valids (onSide s (getD (c .before) j 0) (getD (c .after) j 0))) j (some z)
       → Infers (view c) (is-bound s j z) × (Holds (view c) (is-bound s j z) → ⊥)
-  pass-infers s j z =
-      let more = p .reached .more in
-      pushes-infers c (more .within) valids (λ x e. valid-up (view b) (view c) (more .above) x (p .sound x e)) j s z
+  pass-infers s j z = pushes-infers c (p .reached .more .within) valids pass-sound j s z
 
   -- one job less, and perhaps another board
   pub pass-goes : (k next : ℕ) (d : Board) → next ≡ without jobLimit left k → Reached b d → InPass b valids d next

@@ -1,4 +1,5 @@
 // The closure: the rules applied until nothing is left to infer, or a mark would have to change.
+use crate::joins::follow;
 use crate::precedence::propagate;
 use board::Board;
 use rules::Found;
@@ -32,6 +33,10 @@ pub fn closure(b: Board) -> Outcome
         if !next.possible {
             return next;
         }
-        c = next.board;
+        let followed = follow(next.board, fact);
+        if !followed.possible {
+            return followed;
+        }
+        c = followed.board;
     }
 }

@@ -1,15 +1,16 @@
 -- `closure::close::closure` meets its contract: whichever inferences come first, the board stays below every closed board above
 -- the one handed in. The measure is the board's own. Assumes nothing.
 use mathlib.Core.Path.{sym, _∙_}
-use mathlib.Core.Option.{some}
+use mathlib.Core.Option.{none, some}
 use Prim.Native.Nat.{_<_}
+use native.Mathlib.Omega.{arith}
 use borrow.Author.Needs.{needs}
 use borrow.Author.Tests.{not-true, not-false}
 use Rattle.board.specs.Paper.View.{view}
 use Rattle.board.specs.Paper.Facts.{Holds}
 use Rattle.board.specs.Paper.Values.{factOf}
 use Rattle.board.specs.Inference.Infers.{Infers}
-use Rattle.closure.specs.Measure.{measure}
+use Rattle.closure.specs.Measure.{measure, measure-mono}
 use Rattle.closure.specs.Applies.{inferred-applies}
 use Rattle.closure.specs.Stepping.{Reached, reached-self, reaches-closure, reaches-then, reached-closure, reached-next, reached-none}
 use Rattle.closure.proofs.close.closure.Statement.{statement}
@@ -93,11 +94,33 @@ stepped c =
     let possible = not-false (next .result .possible) (c .if2 .left) in
     reached-next _ _ (started (l .before) .more .within) (l .loop .inv) _ infers new _ (sym (rw possible at (next .ensures)))
 
+follow-requires : tie.Need-follow-requires Inv-loop μ-loop
+follow-requires c κs = stepped c .0 .more .within
+
+returns-4 : tie.Need-returns-4 Inv-loop μ-loop
+returns-4 c =
+    let next = c .before .before in
+    let l = next .before .before .before .before .before .before .before .before in
+    let failed = not-true (next .follow .result .possible) (c .if3 .taken) in
+    let run = reaches-then _ _ (stepped (next .before) .0) none (rw failed at (next .follow .ensures)) in
+    rw failed (reaches-closure _ (start-of l .pre) (reaches-then _ _ (started (l .before)) none run))
+
+-- what follows ends in a board
+followed : (c : tie.Else3 Inv-loop μ-loop)
+    → let next = c .before .before in
+    Reached (next .before .before .before .update .result .board) (next .follow .result .board)
+followed c =
+    let next = c .before .before .follow in
+    rw (not-false (next .result .possible) (c .if3 .left)) at (next .ensures)
+
 loop-less : tie.Need-loop-less Inv-loop μ-loop
-loop-less c = stepped (c .before) .1
+loop-less c =
+    let less = stepped (c .before .before .before .before) .1 in
+    let more = measure-mono _ _ (followed (c .before) .more) in
+    omega (arith, less, more)
 
 loop-again : tie.Need-loop-again Inv-loop μ-loop
-loop-again c = stepped (c .before) .0
+loop-again c = reaches-then _ _ (stepped (c .before .before .before .before) .0) (some _) (followed (c .before))
 
 pub closure-spec : {M : Type 1} → statement M
 closure-spec =
@@ -114,5 +137,7 @@ closure-spec =
     returns-2
     update-requires
     returns-3
+    follow-requires
+    returns-4
     loop-less
     loop-again)
