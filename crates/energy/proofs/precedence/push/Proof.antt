@@ -36,7 +36,7 @@ turned-requires : tie.Need-turned-requires
 turned-requires c κs = let (hours, work, _) = c .before .before .before .before .before .pre in best-moderate _ _ _ _ hours work _ _ (best (c .before .before))
 
 returns : tie.Need-returns
-returns c = 
+returns c =
     let own = toZ-ofZ w32 _ (record { sfits = c .before .before .bound .ok }) ∙ c .before .before .bound .ensures in
     let back = toZ-ofZ w32 _ (record { sfits = c .turned .ok }) ∙ c .turned .ensures in
     pushes _ _ _ _ _ _ _ (best (c .before .before .before)) (rw own at (c .before .if1 .taken)) back

@@ -44,7 +44,7 @@ sum-requires : tie.Need-sum-requires
 sum-requires c κs = let e = c .before .before in rw (low-is e, all-is e) (low-moderate e, all-moderate e)
 
 returns-2 : tie.Need-returns-2
-returns-2 c = 
+returns-2 c =
     let e = c .before .before .before in
     let (above, comes) = play e .in-play .ensures in
     let is = toZ-ofZ w32 _ (record { sfits = c .sum .ok }) ∙ (rw (low-is e, all-is e) at (c .sum .ensures)) in
