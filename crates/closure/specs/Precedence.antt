@@ -1,4 +1,4 @@
--- Precedence propagation is sound: the bound that one valid job leaves to another is what R4 or R5 infers with a set of one.
+-- Precedence propagation is sound: the bound that a set of valid jobs on one side of a job leaves to it is what R4 or R5 infers.
 use mathlib.Core.Path.{_≡_, sym, _∙_, subst⁻¹}
 use mathlib.Core.Bool.{true}
 use mathlib.Core.Option.{some}

@@ -1,5 +1,5 @@
-// Precedence propagation: the live jobs in topological order, each window bounded by the valid jobs on one side of it, one at a
-// time. It is sound and not complete: it leaves the search little to find, where a long chain of jobs moves.
+// Precedence propagation: the live jobs in topological order, each window bounded by the valid jobs on one side of it, singly
+// and all together. It is sound and not complete: it leaves the search little to find, where a long chain of jobs moves.
 use board::Board;
 use board::facts::Fact;
 use board::facts::Side;
@@ -54,7 +54,7 @@ fn next_job<'a>(
     }
 }
 
-// The bound that the valid jobs on one side of a job leave to it, one at a time, where it says something new.
+// The bound that the valid jobs on one side of a job leave to it, singly or all together, where it says something new.
 fn pushed<'a>(
     side: Side,
     job: usize,
