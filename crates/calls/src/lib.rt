@@ -6,6 +6,7 @@ use board::facts::Side;
 use closure::close::closure;
 use entries::Answer;
 use entries::Entered;
+use equality::same;
 use gate::Gate;
 use gate::addition_gate;
 use gate::cut_gate;
@@ -64,11 +65,18 @@ fn impossible(board: Board) -> Entered
 
 // The closure with an entry: `raw` is the board that shows it, nothing inferred yet.
 fn settle(board: Board, raw: Outcome, accepted: Answer) -> Entered
-    requires { ⌜ (raw .possible ≡ true → Within (raw .board)) ⌝ }
+    requires { ⌜ (passes board ≡ true) × (raw .possible ≡ true → Within (raw .board)) ⌝ }
     ensures { λ r. ⌜ r ≡ paper.concluded board accepted (outcomeOf raw andThen closing.closure) ⌝ }
 {
     if !raw.possible {
         return impossible(board);
+    }
+    // An entry that the board shows already alters nothing, and a board that passes check 0 is closed.
+    if same(raw.board, board) {
+        return Entered {
+            answer: accepted,
+            board,
+        };
     }
     let closed = closure(raw.board);
     if !closed.possible {

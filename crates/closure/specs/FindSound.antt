@@ -1,10 +1,10 @@
 -- What is found is inferred by a rule, and not shown yet.
-use mathlib.Core.Path.{_≡_, sym}
+use mathlib.Core.Path.{_≡_}
 use mathlib.Core.Option.{some}
 use Prim.Native.Nat.{ℕ}
 use Rattle.minutes.specs.Linear.{whole}
 use Rattle.board.specs.Paper.View.{View, Live, Valid, Arc, Side, early, late, bound, Beyond}
-use Rattle.board.specs.Paper.Facts.{Fact, is-arc, is-invalid, Holds, Known}
+use Rattle.board.specs.Paper.Facts.{Fact, is-arc, is-invalid, Holds}
 use Rattle.board.specs.Inference.Infers.{Pushing, Infers, r1, r2, r3, r45, r6}
 use Rattle.board.specs.Tests.Live.{valid}
 use Rattle.closure.specs.Find.{pushers, pushed, push, next, find}
@@ -52,10 +52,3 @@ module _ (v : View) where
 pub find-sound : (v : View) (f : Fact) → find v ≡ some f → Infers v f × (Holds v f → ⊥)
 unfolding find
 find-sound v = first-finds (v .jobs) _ (λ i. first-finds (v .jobs) _ (next-sound v i)) .found
-
-pub infers-known : (v : View) (f : Fact) → Infers v f → Known (v .jobs) f
-infers-known v _ (r1 a b c la vb lc ne ab bc) = (la .0, lc .0, ne)
-infers-known v _ (r2 a b va lb ab ba) = lb .0
-infers-known v _ (r3 a b la lb ne h) = (lb .0, la .0, λ e. ne (sym e))
-infers-known v _ (r45 s j S m lj p) = lj .0
-infers-known v _ (r6 j lj h) = lj .0

@@ -9,8 +9,5 @@ pub mod FindComplete
 pub mod Measure
 pub mod Closes
 pub mod Stepping
-pub mod Precedence
-pub mod Joins
-pub mod Applies
 pub mod Checked
 pub mod ClosureLeast

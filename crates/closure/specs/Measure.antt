@@ -17,7 +17,7 @@ use Rattle.board.specs.Paper.Limits.{IsTime, Fits, Within, jobLimit, lastMinute
 use Rattle.board.specs.Order.Laws.{live-down, arc-up, bound-up}
 use Rattle.board.specs.Update.Extension.{Above}
 use Rattle.board.specs.Tests.Live.{live, live-yes, live-show}
-use Rattle.energy.specs.Laws.{turned-time}
+use Rattle.propagation.specs.Applies.{bound-time}
 use Rattle.closure.specs.Closing.{steps}
 use Rattle.board.specs.Tests.Decides.{Decides, _and_, negated, holds, live-is}
 
@@ -60,10 +60,6 @@ slack-is s r h =
     let z = bound s r in
     let sum = plus lastMinute (negℤ z) in
     omega (whole, none-below (lastMinute -ℤ z) (omega (whole, sum, minus z)), sum, minus z)
-
-pub bound-time : (s : Side) (r : Row) → Fits r → IsTime (bound s r)
-bound-time early r f = f .earliest
-bound-time late r f = turned-time late (r .latest) (f .latest)
 
 module _ (b c : Board) (more : Above (b .jobs) b c) where
   live-before : (j : ℕ) → Live (view c) j → Live (view b) j

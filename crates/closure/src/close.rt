@@ -1,7 +1,6 @@
 // The closure: the rules applied until nothing is left to infer, or a mark would have to change.
-use crate::joins::follow;
-use crate::precedence::propagate;
 use board::Board;
+use propagation::propagate;
 use rules::Found;
 use search::find;
 use updates::Outcome;
@@ -10,33 +9,26 @@ ghost use Rattle.board.specs.Paper.Limits.{Within};
 ghost use Rattle.updates.specs.Outcome.{outcomeOf};
 ghost use Rattle.closure.specs.Closing as closing;
 
-// Which inference comes first doesn't matter: any run of them ends in the same board. Precedence moves most windows at the
-// least cost, so it goes first.
+// Which inference comes first doesn't matter: any run of them ends in the same board. Propagation makes most of them at the
+// least cost; that none is left is what the search shows.
 pub fn closure(b: Board) -> Outcome
     requires { ⌜ Within b ⌝ }
     ensures { λ r. ⌜ outcomeOf r ≡ closing.closure b ⌝ }
 {
-    let start = propagate(b);
-    if !start.possible {
-        return start;
-    }
-    let mut c = start.board;
+    let mut c = b;
     loop {
-        let found = find(c);
+        let moved = propagate(c);
+        if !moved.possible {
+            return moved;
+        }
+        let found = find(moved.board);
         let Found::Inferred(fact) = found else {
-            return Outcome {
-                possible: true,
-                board: c,
-            };
+            return moved;
         };
-        let next = updates::update(c, fact);
+        let next = updates::update(moved.board, fact);
         if !next.possible {
             return next;
         }
-        let followed = follow(next.board, fact);
-        if !followed.possible {
-            return followed;
-        }
-        c = followed.board;
+        c = next.board;
     }
 }

@@ -1,14 +1,15 @@
 -- The sums that R4 and R5 compare a bound with, over the numbers that the code reads. R5 is R4 with the signs turned: a time
 -- D counts as the bound -D, so a greatest D is a least bound and a difference is a sum.
 use mathlib.Core.Path.{_≡_}
-use mathlib.Core.Bool.{Bool, true, _&&_}
+use mathlib.Core.Bool.{Bool, true}
 use mathlib.Core.List.{List}
+use mathlib.Core.Logic.{_≢_}
 use mathlib.Core.Option.{Option, none, some}
-use Prim.Native.Nat.{ℕ}
+use Prim.Native.Nat.{ℕ, _<_}
 use lib.IntN.{ℤ, pos, _+ℤ_}
 use lib.ListN.{getD}
-use lib.Signed.{ltZ, _≤ℤ_}
-use Rattle.words.specs.Bit.{bit}
+use lib.Signed.{_≤ℤ_, _<ℤ_}
+use Rattle.words.specs.Bit.{bit, without}
 use Rattle.minutes.specs.Sum.{total}
 use Rattle.board.specs.Paper.View.{Side}
 use Rattle.board.specs.Paper.Limits.{IsTime, jobLimit, longest}
@@ -43,9 +44,21 @@ pub record LeastBound (s : Side) (times : List ℤ) (w : ℕ) (z : ℤ) : Type 0
   pub is : z ≡ boundAt s times first
   pub least : (k : ℕ) → bit w k ≡ true → z ≤ℤ boundAt s times k
 
--- the jobs of the set w whose bound is above `floor`
-pub record Above (s : Side) (times : List ℤ) (w : ℕ) (floor : ℤ) (kept : ℕ) : Type 0 where
-  pub is : (k : ℕ) → bit kept k ≡ (bit w k && ltZ floor (boundAt s times k))
+-- what the set w comes to: its least bound, where it has a member, and the sum of its lengths
+pub record Comes (s : Side) (times lengths : List ℤ) (w : ℕ) (low all : ℤ) : Type 0 where
+  pub least : w ≢ 0 → LeastBound s times w low
+  pub loaded : all ≡ load lengths w
+
+-- What is left of a set when jobs are struck one after the other: each one's bound and the lengths of all that are left when
+-- it is struck, its own among them, come to `best` at most.
+pub data Strikes (s : Side) (times lengths : List ℤ) (best : ℤ) (set : ℕ) : ℕ → Type 0 where
+  none-struck : Strikes s times lengths best set set
+  struck : (w k : ℕ) → Strikes s times lengths best set w → k < jobLimit → bit w k ≡ true
+      → (boundAt s times k +ℤ load lengths w) ≤ℤ best → Strikes s times lengths best set (without jobLimit w k)
+
+-- the bound of each job kept beats `best` with the lengths of the whole set
+pub record Beats (s : Side) (times lengths : List ℤ) (best : ℤ) (set kept : ℕ) : Type 0 where
+  pub over : (k : ℕ) → bit kept k ≡ true → best <ℤ (boundAt s times k +ℤ load lengths set)
 
 -- "(least E in S) + (sum of lengths in S) for each non-empty set S of valid jobs with arcs to B", and R5's difference turned:
 -- z is that sum for a set S of jobs of the word w, whose member with the least bound is `first`.

@@ -1,19 +1,21 @@
--- Why striking jobs finds the greatest sum: the jobs still in play are all those with a bound as great as one of theirs, so
--- every set that starts at one of them lies among them, and no set that starts at a struck job gives more than the best.
+-- Why striking jobs finds the greatest sum: a set that gives more than the best is open, which is that all jobs with a bound as
+-- great as its least one are still in play, so it lies among them and gives no more than its least bound and all their lengths.
 use mathlib.Core.Path.{_≡_, refl, sym, ap, _∙_, subst, subst⁻¹}
-use mathlib.Core.Bool.{Bool, true, false, and-true}
+use mathlib.Core.Bool.{Bool, true, false}
 use mathlib.Core.List.{List}
 use mathlib.Core.Logic.{_≢_, _⊎_, inl, inr}
 use mathlib.Core.Option.{none, some}
 use Prim.Native.Nat.{ℕ, _^_, _≤_, _<_}
 use native.Mathlib.Omega.{arith}
-use lib.IntN.{ℤ, pos, negℤ, _+ℤ_, _-ℤ_}
-use lib.Signed.{ltZ, _≤ℤ_}
+use lib.IntN.{ℤ, pos, negℤ, _+ℤ_}
+use lib.Signed.{leZ, ltZ, _≤ℤ_}
 use mir.Syntax.{w32}
-use mir.Val.{SFits}
-use Rattle.words.specs.Bit.{bit}
-use Rattle.words.specs.BitLaws.{bit-zero, part-at-most}
-use Rattle.minutes.specs.Bools.{is-false, refuted, and-parts, and-both, by-test}
+use mir.Val.{SFits, toZ, ofZ}
+use mir.ValLaws.{toZ-ofZ}
+use Rattle.words.specs.Bit.{bit, without}
+use Rattle.words.specs.BitLaws.{bit-zero, without-lt, part-at-most}
+use Rattle.words.specs.Walk.{without-other, without-inside}
+use Rattle.minutes.specs.Bools.{refuted, by-test}
 use Rattle.minutes.specs.Linear.{whole, plus, minus}
 use Rattle.minutes.specs.Sum.{sum, total, total-more, total-subset, total-range}
 use Rattle.minutes.specs.Time.{Moderate, fits, greater, greater-left, greater-right}
@@ -21,7 +23,7 @@ use Rattle.board.specs.Paper.View.{Side, early, late}
 use Rattle.board.specs.Paper.Limits.{IsTime, firstMinute, jobLimit}
 use Rattle.board.specs.Paper.Values.{turned}
 use Rattle.board.specs.Tests.Ranges.{time-moderate}
-use Rattle.energy.specs.Energy.{boundAt, lengthAt, Times, Lengths, load, LeastBound, Above, Sum, Greatest}
+use Rattle.energy.specs.Energy.{boundAt, lengthAt, Times, Lengths, load, Comes, Strikes, none-struck, struck, Beats, Sum, Greatest}
 
 -- ---- what the code adds fits an i32
 
@@ -59,14 +61,29 @@ turned-back late z = omega (whole, minus z, minus (negℤ z))
 pub turned-greatest : (P : ℤ → Type 0) (s : Side) (best t : ℤ) → t ≡ turned s best → Greatest P (some best) → Greatest P (some (turned s t))
 turned-greatest P s best t e = subst⁻¹ (λ z. Greatest P (some z)) (ap (turned s) e ∙ turned-back s best)
 
-least-time : {s : Side} {times : List ℤ} {left : ℕ} {low : ℤ} → Times times → LeastBound s times left low → IsTime low
-least-time {s} hours h = let t = turned-time s _ (hours .time (h .first)) in record { low = omega (whole, h .is, t .low); high = omega (whole, h .is, t .high) }
+pub bound-moderate : (s : Side) {times : List ℤ} → Times times → (k : ℕ) → Moderate (boundAt s times k)
+bound-moderate s hours k = time-moderate (turned-time s _ (hours .time k))
 
-pub moderate-fits : (z : ℤ) → Moderate z → SFits w32 z
+moderate-fits : (z : ℤ) → Moderate z → SFits w32 z
 moderate-fits z m = fits z (omega whole) (omega whole)
 
-pub least-moderate : {s : Side} {times : List ℤ} {left : ℕ} {low : ℤ} → Times times → LeastBound s times left low → Moderate low
-least-moderate hours h = time-moderate (least-time hours h)
+-- what a set with a member comes to, also as the machine reads it back from its bits
+module _ {s : Side} {times lengths : List ℤ} {w : ℕ} {low all : ℤ} (hours : Times times) (work : Lengths lengths) (c : Comes s times lengths w low all)
+    (some-job : w ≢ 0) where
+  low-moderate : Moderate low
+  low-moderate = let h = c .least some-job in subst⁻¹ Moderate (h .is) (bound-moderate s hours (h .first))
+
+  all-moderate : Moderate all
+  all-moderate = subst⁻¹ Moderate (c .loaded) (load-moderate work w)
+
+  pub low-back : toZ w32 (ofZ w32 low) ≡ low
+  low-back = toZ-ofZ w32 low (moderate-fits low low-moderate)
+
+  pub all-back : toZ w32 (ofZ w32 all) ≡ all
+  all-back = toZ-ofZ w32 all (moderate-fits all all-moderate)
+
+  pub back-moderate : Moderate (toZ w32 (ofZ w32 low)) × Moderate (toZ w32 (ofZ w32 all))
+  back-moderate = rw (low-back, all-back) (low-moderate, all-moderate)
 
 pub sum-range : {s : Side} {times lengths : List ℤ} {w : ℕ} {z : ℤ} → Times times → Lengths lengths → Sum s times lengths w z
     → (firstMinute ≤ℤ z) × (z ≤ℤ pos 1140000)
@@ -76,132 +93,135 @@ sum-range {s} {times} {lengths} hours work q =
     let sum = plus (boundAt s times (q .first)) (total jobLimit (q .set) (lengthAt lengths)) in
     (omega (whole, q .is, sum, t .low), omega (whole, q .is, sum, t .high))
 
+-- all the jobs of a part of the set
+pub part-sum : {s : Side} {times lengths : List ℤ} {set w : ℕ} {low all : ℤ} → ((k : ℕ) → bit w k ≡ true → bit set k ≡ true)
+    → Comes s times lengths w low all → w ≢ 0 → Sum s times lengths set (low +ℤ all)
+part-sum {w = w} inside c some-job =
+    let h = c .least some-job in
+    record {
+      set = bit w;
+      inside = inside;
+      first = h .first;
+      member = h .member;
+      least = λ k e. omega (whole, h .least k e, h .is);
+      is = cc (h .is, c .loaded);
+    }
+
 -- ---- the jobs in play
 
--- The jobs `left` of the set are in play, and no set that starts at a struck job gives more than `best`. Before the first round
--- `best` is a time that no sum falls short of, and then the sum of a set.
+-- all jobs of the set with a bound as great as that of job x are among `left`
+abbrev Open : Side → List ℤ → ℕ → ℕ → ℕ → Type 0
+Open s times set left x = (y : ℕ) → bit set y ≡ true → boundAt s times x ≤ℤ boundAt s times y → bit left y ≡ true
+
+-- The jobs `left` of the set are in play: each set of jobs gives `best` at most, or is open at its least bound.
 pub record InPlay (s : Side) (times lengths : List ℤ) (set left : ℕ) (best : ℤ) : Type 0 where
   pub fits : left < 2 ^ jobLimit
   pub inside : (k : ℕ) → bit left k ≡ true → bit set k ≡ true
-  pub upward : (x y : ℕ) → bit left x ≡ true → bit set y ≡ true → boundAt s times x ≤ℤ boundAt s times y → bit left y ≡ true
-  pub covered : (z : ℤ) (p : Sum s times lengths set z) → bit left (p .first) ≡ false → z ≤ℤ best
-  pub reached : ((left ≡ set) × (best ≡ firstMinute)) ⊎ Sum s times lengths set best
+  pub covered : (z : ℤ) (p : Sum s times lengths set z) → (z ≤ℤ best) ⊎ Open s times set left (p .first)
+
+-- Before the first round `best` is a time that no sum falls short of, and then the sum of a set.
+abbrev pub Reached : Side → List ℤ → List ℤ → ℕ → ℕ → ℤ → Type 0
+Reached s times lengths set left best = ((left ≡ set) × (best ≡ firstMinute)) ⊎ Sum s times lengths set best
 
 module _ {s : Side} {times lengths : List ℤ} {set : ℕ} where
   pub no-sum : set ≡ 0 → Greatest (Sum s times lengths set) none
   no-sum e z p = refuted (ap (λ w. bit w (p .first)) e ∙ bit-zero (p .first)) (p .inside (p .first) (p .member))
 
-  -- those above a floor that lies below every time are all
-  pub all-in-play : {kept : ℕ} {floor : ℤ} → Times times → set < 2 ^ jobLimit → ltZ floor firstMinute ≡ true → Above s times set floor kept
-      → InPlay s times lengths set kept firstMinute
-  all-in-play {kept} {floor} hours fits below above =
-      let same : kept ≡ set = omega (arith, part-at-most kept set (λ k e. sym (stays k) ∙ e), part-at-most set kept (λ k e. stays k ∙ e)) in
+  pub all-in-play : {left : ℕ} {best : ℤ} → set < 2 ^ jobLimit → left ≡ set → InPlay s times lengths set left best
+  all-in-play {left} fits same =
       record {
-        fits = omega (arith, same);
-        inside = λ k e. sym (stays k) ∙ e;
-        upward = λ x y p q l. stays y ∙ q;
-        covered = λ z p e. absurd (refuted e (stays (p .first) ∙ p .inside (p .first) (p .member)));
-        reached = inl (same, refl);
+        fits = rw same fits;
+        inside = λ k e. rw same at e;
+        covered = λ z p. inr λ y e l. rw same e;
       }
-    where
-      high : (k : ℕ) → ltZ floor (boundAt s times k) ≡ true
-      high k = omega (whole, below, turned-time s _ (hours .time k) .low)
 
-      stays : (k : ℕ) → bit kept k ≡ bit set k
-      stays k = above .is k ∙ rw (high k) (and-true (bit set k))
-
-  pub none-in-play : {left : ℕ} {best : ℤ} → set ≢ 0 → left ≡ 0 → InPlay s times lengths set left best
+  pub none-in-play : {left : ℕ} {best : ℤ} → set ≢ 0 → left ≡ 0 → InPlay s times lengths set left best → Reached s times lengths set left best
       → Greatest (Sum s times lengths set) (some best)
-  none-in-play {left} {best} some-job empty p =
-      (greatest (p .reached), λ z q. p .covered z q (ap (λ w. bit w (q .first)) empty ∙ bit-zero (q .first)))
+  none-in-play {left} {best} some-job empty p r = (greatest r, λ z q. closed z q (p .covered z q))
     where
-      greatest : ((left ≡ set) × (best ≡ firstMinute)) ⊎ Sum s times lengths set best → Sum s times lengths set best
+      greatest : Reached s times lengths set left best → Sum s times lengths set best
       greatest (inl e) = absurd (some-job (sym (e .0) ∙ empty))
       greatest (inr q) = q
 
-  pub best-moderate : {left : ℕ} {best : ℤ} → Times times → Lengths lengths → InPlay s times lengths set left best → Moderate best
-  best-moderate {left} {best} hours work p = go (p .reached)
+      closed : (z : ℤ) (q : Sum s times lengths set z) → (z ≤ℤ best) ⊎ Open s times set left (q .first) → z ≤ℤ best
+      closed z q (inl l) = l
+      closed z q (inr on) =
+          let x = q .first in
+          absurd (refuted (ap (λ w. bit w x) empty ∙ bit-zero x) (on x (q .inside x (q .member)) (omega whole)))
+
+  pub best-moderate : {left : ℕ} {best : ℤ} → Times times → Lengths lengths → Reached s times lengths set left best → Moderate best
+  best-moderate hours work (inl e) = (omega (whole, e .1), omega (whole, e .1))
+  best-moderate hours work (inr q) = let (low, high) = sum-range hours work q in (omega whole, omega whole)
+
+  -- a greater best covers no less
+  raised : {left : ℕ} {best top : ℤ} → best ≤ℤ top → InPlay s times lengths set left best → InPlay s times lengths set left top
+  raised {left} {best} {top} more p = record { fits = p .fits; inside = p .inside; covered = λ z q. go z q (p .covered z q) }
     where
-      go : ((left ≡ set) × (best ≡ firstMinute)) ⊎ Sum s times lengths set best → Moderate best
-      go (inl e) = (omega (whole, e .1), omega (whole, e .1))
-      go (inr q) = let (low, high) = sum-range hours work q in (omega whole, omega whole)
+      go : (z : ℤ) (q : Sum s times lengths set z) → (z ≤ℤ best) ⊎ Open s times set left (q .first) → (z ≤ℤ top) ⊎ Open s times set left (q .first)
+      go z q (inl l) = inl (omega whole)
+      go z q (inr on) = inr on
+
+  -- an open set lies in play, so where it starts at no greater bound than that of job k, striking k covers it
+  strike-one : {left : ℕ} {best : ℤ} → Lengths lengths → InPlay s times lengths set left best → (k : ℕ) → k < jobLimit
+      → (boundAt s times k +ℤ load lengths left) ≤ℤ best → InPlay s times lengths set (without jobLimit left k) best
+  strike-one {left} {best} work p k width under =
+      record {
+        fits = without-lt jobLimit left k (p .fits);
+        inside = λ j e. p .inside j (without-inside jobLimit left k (p .fits) width j e);
+        covered = λ z q. go z q (p .covered z q) _ refl;
+      }
+    where
+      go : (z : ℤ) (q : Sum s times lengths set z) → (z ≤ℤ best) ⊎ Open s times set left (q .first)
+          → (t : Bool) → leZ (boundAt s times (q .first)) (boundAt s times k) ≡ t → (z ≤ℤ best) ⊎ Open s times set (without jobLimit left k) (q .first)
+      go z q (inl l) t e = inl l
+      go z q (inr on) true e =
+          let all = total jobLimit (q .set) (lengthAt lengths) in
+          let within : all ≤ℤ load lengths left = total-subset jobLimit (q .set) (bit left) (lengthAt lengths) (λ j l m. on j (q .inside j m) (q .least j m)) (λ j l m. work .low j) in
+          inl (omega (whole, q .is, plus (boundAt s times (q .first)) all, plus (boundAt s times k) (load lengths left)))
+      go z q (inr on) false e = inr λ y i l.
+          let other : y ≢ k = λ same. let at = subst (λ j. boundAt s times (q .first) ≤ℤ boundAt s times j) same l in refuted e (omega whole) in
+          without-other jobLimit left k (p .fits) width y other ∙ on y i l
+
+  strike-all : {left kept : ℕ} {best : ℤ} → Lengths lengths → InPlay s times lengths set left best → Strikes s times lengths best left kept
+      → InPlay s times lengths set kept best
+  strike-all work p none-struck = p
+  strike-all work p (struck w k before width member under) = strike-one work (strike-all work p before) k width under
+
+pub strikes-inside : {s : Side} {times lengths : List ℤ} {best : ℤ} {set kept : ℕ} → set < 2 ^ jobLimit → Strikes s times lengths best set kept
+    → (kept < 2 ^ jobLimit) × ((k : ℕ) → bit kept k ≡ true → bit set k ≡ true)
+strikes-inside fits none-struck = (fits, λ k e. e)
+strikes-inside fits (struck w k before width member under) =
+    let (smaller, inside) = strikes-inside fits before in
+    (without-lt jobLimit w k smaller, λ j e. inside j (without-inside jobLimit w k smaller width j e))
 
 -- ---- a round
 
--- `low` is the least bound in play and `all` the sum of all lengths in play, so low + all is the sum of all the jobs in play.
-module _ {s : Side} {times lengths : List ℤ} {set left : ℕ} {best low all : ℤ} (hours : Times times) (work : Lengths lengths)
-    (p : InPlay s times lengths set left best) (least : LeastBound s times left low) (loaded : all ≡ load lengths left) where
-  -- the best sum so far
-  abbrev top : ℤ
-  top = greater best (low +ℤ all)
-
-  abbrev floor : ℤ
-  floor = top -ℤ all
-
-  now : Sum s times lengths set (low +ℤ all)
-  now =
-      record {
-        set = bit left;
-        inside = p .inside;
-        first = least .first;
-        member = least .member;
-        least = λ k e. omega (whole, least .least k e, least .is);
-        is = cc (least .is, loaded);
-      }
-
-  top-reached : Sum s times lengths set top
-  top-reached = by-test (Sum s times lengths set) (ltZ best (low +ℤ all)) (low +ℤ all) best (λ e. now) λ e. go e (p .reached)
+-- the best is raised to the sum of all the jobs in play, low + all, if that is more, and jobs are struck
+module _ {s : Side} {times lengths : List ℤ} {set left : ℕ} {best low all top : ℤ} (hours : Times times) (work : Lengths lengths)
+    (p : InPlay s times lengths set left best) (c : Comes s times lengths left low all) (some-job : left ≢ 0) (is : top ≡ greater best (low +ℤ all)) where
+  pub top-reached : Reached s times lengths set left best → Sum s times lengths set top
+  top-reached r = subst⁻¹ (Sum s times lengths set) is (by-test (Sum s times lengths set) (ltZ best (low +ℤ all)) (low +ℤ all) best (λ e. now) λ e. go e r)
     where
-      go : ltZ best (low +ℤ all) ≡ false → ((left ≡ set) × (best ≡ firstMinute)) ⊎ Sum s times lengths set best → Sum s times lengths set best
+      now : Sum s times lengths set (low +ℤ all)
+      now = part-sum (p .inside) c some-job
+
+      go : ltZ best (low +ℤ all) ≡ false → Reached s times lengths set left best → Sum s times lengths set best
       go e (inr q) = q
       go e (inl d) =
           let same : low +ℤ all ≡ best = omega (whole, d .1, sum-range hours work now .0) in
           subst (Sum s times lengths set) same now
 
-  pub top-moderate : Moderate top
-  top-moderate = let (a, b) = sum-range hours work top-reached in (omega whole, omega whole)
-
-  -- only the jobs with a bound above the floor stay
-  module _ {kept : ℕ} (above : Above s times left floor kept) where
-    stays : (k : ℕ) → bit kept k ≡ true → (bit left k ≡ true) × (ltZ floor (boundAt s times k) ≡ true)
-    stays k e = and-parts (bit left k) _ (sym (above .is k) ∙ e)
-
-    struck : (k : ℕ) → bit left k ≡ true → bit kept k ≡ false → ltZ floor (boundAt s times k) ≡ false
-    struck k l e = is-false _ λ h. refuted e (above .is k ∙ and-both _ _ l h)
-
-    cover : (z : ℤ) (q : Sum s times lengths set z) → bit kept (q .first) ≡ false → (t : Bool) → bit left (q .first) ≡ t → z ≤ℤ top
-    cover z q out false e = omega (whole, p .covered z q e, greater-left best (low +ℤ all))
-    cover z q out true e =
-        let within = total-subset jobLimit (q .set) (bit left) (lengthAt lengths) (λ k l m. p .upward (q .first) k e (q .inside k m) (q .least k m)) (λ k l m. work .low k) in
-        omega (
-          whole,
-          struck (q .first) e out,
-          within,
-          loaded,
-          q .is,
-          plus (boundAt s times (q .first)) (total jobLimit (q .set) (lengthAt lengths)),
-          plus top (negℤ all),
-          minus all,
-        )
-
+  module _ {kept : ℕ} (strikes : Strikes s times lengths top left kept) where
     pub round : InPlay s times lengths set kept top
-    round =
-        record {
-          fits = omega (arith, part-at-most kept left (λ k e. stays k e .0), p .fits);
-          inside = λ k e. p .inside k (stays k e .0);
-          upward = λ x y e i l. above .is y ∙ and-both _ _ (p .upward x y (stays x e .0) i l) (higher x y (stays x e .1) l);
-          covered = λ z q e. cover z q e _ refl;
-          reached = inr top-reached;
-        }
-      where
-        higher : (x y : ℕ) → ltZ floor (boundAt s times x) ≡ true → boundAt s times x ≤ℤ boundAt s times y → ltZ floor (boundAt s times y) ≡ true
-        higher x y e l = omega whole
+    round = strike-all work (raised (omega (whole, is, greater-left best (low +ℤ all))) p) strikes
 
     -- the job with the least bound is struck
-    pub round-falls : kept < left
-    round-falls = strict (part-at-most kept left λ k e. stays k e .0) λ same.
-        let stayed = stays (least .first) (ap (λ w. bit w (least .first)) same ∙ least .member) .1 in
-        omega (whole, stayed, least .is, greater-right best (low +ℤ all), plus low all, plus top (negℤ all), minus all)
+    pub round-falls : Beats s times lengths top left kept → kept < left
+    round-falls beats = strict (part-at-most kept left (strikes-inside (p .fits) strikes .1)) λ same.
+        let least = c .least some-job in
+        let x = least .first in
+        let over = beats .over x (ap (λ w. bit w x) same ∙ least .member) in
+        omega (whole, over, is, least .is, c .loaded, greater-right best (low +ℤ all), plus low all, plus (boundAt s times x) (load lengths left))
       where
         strict : kept ≤ left → kept ≢ left → kept < left
         strict l ne = omega (arith, ne)

@@ -2,6 +2,7 @@
 pub mod Energy
 pub mod Members
 pub mod Laws
+pub mod Passed
 pub mod Precedence
 pub mod SumBeyond
 pub mod Exact

@@ -8,17 +8,17 @@ use Prim.Native.Nat.{ℕ, _<_}
 use native.Mathlib.Omega.{arith}
 use lib.Dec.{eqb}
 use lib.IntN.{ℤ, pos, _+ℤ_}
-use lib.Signed.{ltZ, _≤ℤ_, _<ℤ_}
+use lib.Signed.{ltZ, _<ℤ_}
 use borrow.Author.Tests.{eq-eqb, ne-eqb, eqb-true}
 use Rattle.words.specs.Bit.{bit}
-use Rattle.minutes.specs.Bools.{by-test, and-parts}
+use Rattle.minutes.specs.Bools.{by-test}
 use Rattle.minutes.specs.Linear.{whole, plus}
 use Rattle.minutes.specs.Sum.{sum, total, total-member, total-more}
 use Rattle.minutes.specs.Time.{Moderate, greater}
 use Rattle.board.specs.Paper.View.{Side}
 use Rattle.board.specs.Paper.Limits.{jobLimit}
 use Rattle.board.specs.Paper.Values.{turned}
-use Rattle.energy.specs.Energy.{boundAt, lengthAt, Times, Lengths, load, LeastBound, Above, Sum}
+use Rattle.energy.specs.Energy.{boundAt, lengthAt, Times, Lengths, Sum}
 use Rattle.energy.specs.Laws.{turned-time, turned-back, sum-range}
 
 -- a bound above that of job j, to which a set of jobs of the word w pushes it
@@ -55,19 +55,6 @@ module _ (s : Side) (times lengths : List ℤ) (w : ℕ) where
 
   pub better : (j : ℕ) (z x : ℤ) → Best j z → Best j x → Best j (greater z x)
   better j z x h g = by-test (Best j) (ltZ z x) x z (λ _. g) (λ _. h)
-
-  -- the set of all jobs of a word that are above a floor
-  pub together : (kept : ℕ) (floor low all : ℤ) → Above s times w floor kept → LeastBound s times kept low → all ≡ load lengths kept
-      → Sum s times lengths w (low +ℤ all)
-  together kept floor low all above h sum =
-      record {
-        set = bit kept;
-        inside = λ k e. and-parts (bit w k) (ltZ floor (boundAt s times k)) (sym (above .is k) ∙ e) .0;
-        first = h .first;
-        member = h .member;
-        least = λ k e. subst (λ z. z ≤ℤ boundAt s times k) (h .is) (h .least k e);
-        is = cc (h .is, sum);
-      }
 
   pub pushes : (j : ℕ) (z t : ℤ) → Best j z → ltZ (boundAt s times j) z ≡ true → t ≡ turned s z → Pushes s times lengths w j (some (turned s t))
   pushes j z t h above e = subst⁻¹ (λ y. Pushes s times lengths w j (some y)) (ap (turned s) e ∙ turned-back s z) (go h)

@@ -1,7 +1,6 @@
 // The energy bound of R4 and R5: the best sum that a set of jobs allows, without a copy of the jobs.
 use board::Board;
 use board::facts::Side;
-ghost use mathlib.Core.Logic.{_≢_};
 ghost use mathlib.Core.Path.{_≡_};
 ghost use Prim.Native.Nat.{_<_};
 ghost use Rattle.minutes.specs.Time.{Moderate};
@@ -44,33 +43,55 @@ struct Play {
     total: i32,
 }
 
-// The jobs of a set whose bound is above `floor`. Where there are none, `least` says nothing.
-fn in_play(
-    side: Side,
-    times: &[i32; Board::JOBS],
-    lengths: &[i32; Board::JOBS],
-    set: u64,
-    floor: i32,
-) -> Play
+// All jobs of a set. Where there are none, `least` says nothing.
+fn whole(side: Side, times: &[i32; Board::JOBS], lengths: &[i32; Board::JOBS], set: u64) -> Play
     requires { ⌜ energy.Times (now times) ⌝ }
     requires { ⌜ energy.Lengths (now lengths) ⌝ }
-    ensures { λ r. ⌜ energy.Above (paper.sideOf side) (now (times .entry)) set floor (r .set) ⌝ }
-    ensures { λ r. ⌜ (r .set ≢ 0 → energy.LeastBound (paper.sideOf side) (now (times .entry)) (r .set) (r .least)) ⌝ }
-    ensures { λ r. ⌜ r .total ≡ energy.load (now (lengths .entry)) (r .set) ⌝ }
+    ensures { λ r. ⌜ r .set ≡ set ⌝ }
+    ensures { λ r. ⌜ energy.Comes (paper.sideOf side) (now (times .entry)) (now (lengths .entry)) set (r .least) (r .total) ⌝ }
 {
-    let mut kept = set;
     let mut least = Board::LAST_MINUTE;
     let mut total = 0;
     let mut left = set;
     while left != 0 {
         let k = words::lowest(left);
         left = words::without(left, k);
+        least = minutes::lesser(least, bound(side, times, k));
+        total = minutes::sum(total, lengths[k]);
+    }
+    Play { set, least, total }
+}
+
+// One pass over the jobs in play: a job is struck where its bound, with the lengths of all that are still in play, can't
+// beat the best.
+fn strike(
+    side: Side,
+    times: &[i32; Board::JOBS],
+    lengths: &[i32; Board::JOBS],
+    set: u64,
+    load: i32,
+    best: i32,
+) -> Play
+    requires { ⌜ energy.Times (now times) ⌝ }
+    requires { ⌜ energy.Lengths (now lengths) ⌝ }
+    requires { ⌜ load ≡ energy.load (now lengths) set ⌝ }
+    ensures { λ r. ⌜ energy.Strikes (paper.sideOf side) (now (times .entry)) (now (lengths .entry)) best set (r .set) ⌝ }
+    ensures { λ r. ⌜ energy.Beats (paper.sideOf side) (now (times .entry)) (now (lengths .entry)) best set (r .set) ⌝ }
+    ensures { λ r. ⌜ energy.Comes (paper.sideOf side) (now (times .entry)) (now (lengths .entry)) (r .set) (r .least) (r .total) ⌝ }
+{
+    let mut kept = set;
+    let mut least = Board::LAST_MINUTE;
+    let mut total = load;
+    let mut left = set;
+    while left != 0 {
+        let k = words::lowest(left);
+        left = words::without(left, k);
         let low = bound(side, times, k);
-        if low <= floor {
+        if minutes::sum(low, total) <= best {
             kept = words::without(kept, k);
+            total = minutes::gap(total, lengths[k]);
         } else {
             least = minutes::lesser(least, low);
-            total = minutes::sum(total, lengths[k]);
         }
     }
     Play {
@@ -80,8 +101,8 @@ fn in_play(
     }
 }
 
-// Over the jobs still in play take their least bound and all their lengths, keep the greatest such sum, strike every job
-// whose bound can't beat it any more, and repeat.
+// Over the jobs still in play take their least bound and all their lengths, keep the greatest such sum, strike jobs whose
+// bound can't beat it any more, and repeat.
 pub fn energy_bound(
     side: Side,
     times: &[i32; Board::JOBS],
@@ -96,12 +117,10 @@ pub fn energy_bound(
         return EnergyBound::Unbounded;
     }
     let mut best = Board::FIRST_MINUTE;
-    // every bound is above a floor that lies before the first minute
-    let mut play = in_play(side, times, lengths, set, Board::FIRST_MINUTE - 1);
+    let mut play = whole(side, times, lengths, set);
     while play.set != 0 {
         best = minutes::greater(best, minutes::sum(play.least, play.total));
-        let floor = minutes::gap(best, play.total);
-        play = in_play(side, times, lengths, play.set, floor);
+        play = strike(side, times, lengths, play.set, play.total, best);
     }
     EnergyBound::At(turned(side, best))
 }

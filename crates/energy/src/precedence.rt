@@ -1,8 +1,8 @@
 // Precedence: R4 and R5 with sets of one job and with the set of all, which cost a walk over the jobs beyond a job each.
 use crate::EnergyBound;
 use crate::bound;
-use crate::in_play;
 use crate::turned;
+use crate::whole;
 use board::Board;
 use board::facts::Side;
 ghost use mathlib.Core.Path.{_≡_};
@@ -53,10 +53,10 @@ fn push_together(
     requires { ⌜ Times (now times) × Lengths (now lengths) × (job < jobLimit) ⌝ }
     ensures { λ r. ⌜ Best (sideOf side) (now (times .entry)) (now (lengths .entry)) set job r ⌝ }
 {
-    let all = in_play(side, times, lengths, set, Board::FIRST_MINUTE - 1);
-    if all.set == 0 {
+    if set == 0 {
         return bound(side, times, job);
     }
+    let all = whole(side, times, lengths, set);
     minutes::sum(all.least, all.total)
 }
 

@@ -72,7 +72,8 @@ append-requires c κs = numbers (c .before) .room
 settle-requires : tie.Need-settle-requires
 settle-requires c κs =
     let told = c .before .before in
-    raw-within _ _ (told .before .before .before .pre) (let-pass told) (made c) (shows c)
+    let pre = told .before .before .before .pre in
+    (pre, raw-within _ _ pre (let-pass told) (made c) (shows c))
 
 returns : tie.Need-returns
 returns c =

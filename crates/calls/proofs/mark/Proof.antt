@@ -101,7 +101,8 @@ update-requires c κs =
 settle-requires : tie.Need-settle-requires
 settle-requires c κs =
     let told = c .before .before .before .before in
-    raw-within _ _ (told .before .before .before .pre) (let-pass told) _ (shows c)
+    let pre = told .before .before .before .pre in
+    (pre, raw-within _ _ pre (let-pass told) _ (shows c))
 
 returns : tie.Need-returns
 returns c =

@@ -1,7 +1,11 @@
--- `calls::settle` meets its contract: the closure is asked where the entry can be shown. Assumes nothing.
+-- `calls::settle` meets its contract: the closure is asked where the entry can be shown and alters the board. Assumes
+-- nothing.
+use mathlib.Core.Path.{_≡_}
+use mathlib.Core.Bool.{true}
 use borrow.Author.Needs.{needs}
 use borrow.Author.Tests.{not-true, not-false}
 use Rattle.board.specs.Update.Updates.{_andThen_}
+use Rattle.calls.specs.Called.{closed-already}
 use Rattle.calls.proofs.settle.Statement.{statement}
 use Rattle.calls.proofs.settle.Tie as tie
 
@@ -14,27 +18,42 @@ returns c =
     let no = not-true (c .before .before .before .args .raw .possible) (c .before .if1 .taken) in
     rw no (c .impossible .ensures)
 
-closure-requires : tie.Need-closure-requires
-closure-requires c κs = c .before .before .pre (not-false _ (c .if1 .left))
+-- past the first test the entry can be shown
+showable : (c : tie.Else1) → c .before .before .args .raw .possible ≡ true
+showable c = not-false _ (c .if1 .left)
 
-impossible-requires-2 : tie.Need-impossible-requires-2
-impossible-requires-2 c κs = search needs
+same-requires : tie.Need-same-requires
+same-requires c κs = search needs
 
 returns-2 : tie.Need-returns-2
 unfolding _andThen_
 returns-2 c =
-    let asked = c .before .before .before in
-    let yes = not-false (asked .before .before .before .args .raw .possible) (asked .before .if1 .left) in
-    let no = not-true (asked .closure .result .possible) (c .before .if2 .taken) in
-    rw (yes, ← asked .closure .ensures, no) (c .impossible2 .ensures)
+    let first = c .before .before in
+    let s = first .before .before in
+    let unaltered : s .args .raw .board ≡ s .args .board = c .before .same .ensures .yes (c .if2 .taken) in
+    rw (showable first, unaltered, closed-already _ (s .pre .0))
+
+closure-requires : tie.Need-closure-requires
+closure-requires c κs =
+    let first = c .before .before in
+    first .before .before .pre .1 (showable first)
+
+impossible-requires-2 : tie.Need-impossible-requires-2
+impossible-requires-2 c κs = search needs
 
 returns-3 : tie.Need-returns-3
 unfolding _andThen_
 returns-3 c =
     let asked = c .before .before .before in
-    let yes = not-false (asked .before .before .before .args .raw .possible) (asked .before .if1 .left) in
-    let closed = not-false (asked .closure .result .possible) (c .before .if2 .left) in
-    rw (yes, ← asked .closure .ensures, closed)
+    let no = not-true (asked .closure .result .possible) (c .before .if3 .taken) in
+    rw (showable (asked .before .before .before), ← asked .closure .ensures, no) (c .impossible2 .ensures)
+
+returns-4 : tie.Need-returns-4
+unfolding _andThen_
+returns-4 c =
+    let asked = c .before .before .before in
+    let closed = not-false (asked .closure .result .possible) (c .before .if3 .left) in
+    rw (showable (asked .before .before .before), ← asked .closure .ensures, closed)
 
 pub settle-spec : {M : Type 1} → statement M
 settle-spec =
@@ -42,7 +61,9 @@ settle-spec =
     (tie.spec
     impossible-requires
     returns
+    same-requires
+    returns-2
     closure-requires
     impossible-requires-2
-    returns-2
-    returns-3)
+    returns-3
+    returns-4)

@@ -1,0 +1,2 @@
+-- When two boards are the same.
+pub mod Same

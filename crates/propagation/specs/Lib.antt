@@ -1,0 +1,7 @@
+-- Propagation: passes that apply one rule all over the board.
+pub mod Reaches
+pub mod Applies
+pub mod Arcs
+pub mod Transitivity
+pub mod Detection
+pub mod Precedence
