@@ -1,5 +1,5 @@
-// Transitivity: what R1 infers, for each valid job from all jobs before it to all after it. The jobs between may come in any
-// order: once all have had their turn, R1 infers no more.
+// Transitivity: what R1 infers through each valid job in turn, from all jobs before it to all after it, as in Warshall's
+// algorithm.
 use crate::arcs::link;
 use board::Board;
 use limits::marked::marked;
