@@ -38,9 +38,6 @@ no-digits (c ∷ t) e = rw e
 pub digits-are-first : (t : List ℕ) → take (length (digits t)) t ≡ digits t
 digits-are-first = digits-ind (λ t ds. take (length ds) t ≡ ds) (λ t e. refl) λ c t e same. ap (λ l. c ∷ l) same
 
-pub digits-within : (t : List ℕ) → length (digits t) ≤ length t
-digits-within t = omega (arith, simp length-take at (ap length (digits-are-first t)))
-
 pub record DigitAt (t ds : List ℕ) (k : ℕ) : Type 0 where
   pub same : getD t k 0 ≡ getD ds k 0
   pub low : code "0" ≤ getD t k 0
@@ -53,13 +50,3 @@ digit-at = digits-ind (λ t ds. (k : ℕ) → k < length ds → DigitAt t ds k) 
         → (k : ℕ) → k < suc (length (digits t)) → DigitAt (c ∷ t) (c ∷ digits t) k
     go c t e rest zero h = let (low, high) = digit-range c e in record { same = refl; low = low; high = high }
     go c t e rest (suc k) h = let r = rest k (omega arith) in record { same = r .same; low = r .low; high = r .high }
-
--- the byte at k is one digit more, or ends the digits
-pub digits-go-on : (t : List ℕ) (k : ℕ) → k < length t → isDigit (getD t k 0) ≡ true → length (digits (drop k t)) ≡ 1 + length (digits (drop (k + 1) t))
-digits-go-on t k h e = rw (add-one k, drop-cons t k 0 h, e) (omega arith)
-
-pub digits-end : (t : List ℕ) (k : ℕ) → k < length t → isDigit (getD t k 0) ≡ false → length (digits (drop k t)) ≡ 0
-digits-end t k h e = rw (drop-cons t k 0 h, e)
-
-pub digits-at-end : (t : List ℕ) (k : ℕ) → length t ≤ k → length (digits (drop k t)) ≡ 0
-digits-at-end t k h = rw (drop-of-length-le t h)

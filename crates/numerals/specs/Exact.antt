@@ -11,7 +11,9 @@ use borrow.Author.Tests.{eqb-true, ne-eqb}
 use Rattle.numerals.specs.Bytes.{minus}
 use Rattle.numerals.specs.Decimal.{natural, number}
 use Rattle.numerals.specs.DecimalLaws.{natural-digits, natural-value, natural-leads, written-is-natural, natural-is-written}
-use Rattle.numerals.specs.DigitsRead.{startsWithDigit, no-digits, digits-are-first, digits-within, digit-at}
+use Rattle.numerals.specs.Bytes.{isDigit}
+use Rattle.numerals.specs.Prefix.{prefix-within}
+use Rattle.numerals.specs.DigitsRead.{startsWithDigit, no-digits, digits-are-first, digit-at}
 use Rattle.numerals.specs.Natural.{natural-short, nothing-is-no-number, NaturalRead, natural-found}
 use Rattle.numerals.specs.Numerals.{digits, naturalAt, negative, numberAt, Short}
 use Rattle.numerals.specs.declared.read.Numeral.{Numeral}
@@ -45,7 +47,7 @@ pub record Reads (t : List ℕ) (k : ℕ) (z : ℤ) : Type 0 where
 from-natural : (t : List ℕ) (k : ℕ) (z : ℤ) → NaturalRead t k z → Reads t k z
 from-natural t k z r =
     record {
-      within = omega (arith, digits-within t, r .all);
+      within = omega (arith, prefix-within isDigit t, r .all);
       written = rw (r .all, r .same) (digits-are-first t ∙ sym (natural-is-written t (r .is)));
       short = rw (r .same) (natural-short t (r .is));
     }

@@ -1,6 +1,7 @@
 -- Numbers as text: how they are written, what stands at the start of a text, and that the two agree.
 pub mod Bytes
 pub mod Decimal
+pub mod Prefix
 pub mod Numerals
 pub mod Exact
 -- what the proofs stand on: digits read and written

@@ -7,13 +7,13 @@ use lib.ListN.{length, getD}
 use mathlib.Core.Bool.{Bool, cond, _&&_, _||_, not}
 use mathlib.Core.List.{List, [], _∷_}
 use Rattle.numerals.specs.Bytes.{minus, isDigit}
+use Rattle.numerals.specs.Prefix.{prefix}
 use Rattle.numerals.specs.declared.read.Numeral.{Numeral}
 use Rattle.numerals.specs.declared.read.Numeral.the-variants.{Number, Nothing}
 
 -- the digits at the start of a text
 abbrev pub digits : List ℕ → List ℕ
-digits [] = []
-digits (c ∷ t) = cond (isDigit c) (c ∷ digits t) []
+digits = prefix isDigit
 
 -- what the digits come to after those that came to n
 abbrev pub valueAfter : ℕ → List ℕ → ℕ

@@ -7,7 +7,8 @@ use lib.ListN.{length}
 use borrow.Author.Needs.{needs}
 use Rattle.numerals.specs.Rest.{rest-length}
 use Rattle.replies.specs.Room.{longest}
-use Rattle.text.specs.LineLaws.{lineLength, line-within}
+use Rattle.numerals.specs.Prefix.{prefix-within}
+use Rattle.text.specs.LineLaws.{inLine, lineLength}
 use Rattle.text.specs.Loop.{Going, going-start, going-line, full, done, last}
 use Rattle.text.specs.Paper.Lines.{linesOf}
 use Rattle.text.specs.Paper.Text.{serve}
@@ -31,7 +32,7 @@ ended : (c : tie.Else2 Inv-loop μ-loop)
     × (c .before .line-length .result < length (c .before .before .before .before .loop .rest .now))
 ended c =
     let is = c .before .line-length .ensures in
-    (is, omega (arith, is, c .if2 .left, line-within (c .before .before .before .before .loop .rest .now)))
+    (is, omega (arith, is, c .if2 .left, prefix-within inLine (c .before .before .before .before .loop .rest .now)))
 
 loop-holds : tie.Need-loop-holds Inv-loop μ-loop
 loop-holds c = (refl, going-start _ _ _ (c .before .before .pre .0))

@@ -5,7 +5,8 @@ use mathlib.Core.Path.{_≡_, sym, _∙_}
 use native.Mathlib.Omega.{arith}
 use borrow.Author.Needs.{needs}
 use borrow.Author.Tests.{not-true, not-false}
-use Rattle.numerals.specs.DigitsRead.{digits-go-on, digits-end, digits-at-end}
+use Rattle.numerals.specs.Bytes.{isDigit}
+use Rattle.numerals.specs.Prefix.{prefix-goes-on, prefix-ends, prefix-over}
 use Rattle.numerals.specs.Numerals.{digits}
 use Rattle.numerals.proofs.read.digits.Statement.{statement}
 use Rattle.numerals.proofs.read.digits.Tie as tie
@@ -28,7 +29,7 @@ is-digit-requires c κs = search needs
 returns : tie.Need-returns Inv-loop μ-loop
 returns c =
     let now = c .before .before .before .before in
-    let ended = digits-end (now .before .before .args .text .now) _ (c .before .before .before .loop-test .taken) (sym (c .before .is-digit .ensures) ∙ not-true _ (c .if1 .taken)) in
+    let ended = prefix-ends isDigit (now .before .before .args .text .now) _ (c .before .before .before .loop-test .taken) (sym (c .before .is-digit .ensures) ∙ not-true _ (c .if1 .taken)) in
     omega (arith, ended, now .loop .inv .1)
 
 add-count : tie.Need-add-count Inv-loop μ-loop
@@ -40,13 +41,13 @@ loop-less c = search needs
 loop-again : tie.Need-loop-again Inv-loop μ-loop
 loop-again c =
     let now = c .before .before .before .before in
-    let more = digits-go-on (now .before .before .args .text .now) _ (c .before .before .before .loop-test .taken) (sym (c .before .is-digit .ensures) ∙ not-false _ (c .if1 .left)) in
+    let more = prefix-goes-on isDigit (now .before .before .args .text .now) _ (c .before .before .before .loop-test .taken) (sym (c .before .is-digit .ensures) ∙ not-false _ (c .if1 .left)) in
     omega (arith, more, now .loop .inv .1)
 
 returns-2 : tie.Need-returns-2 Inv-loop μ-loop
 returns-2 c =
     let now = c .before in
-    let ended = digits-at-end (now .before .before .args .text .now) _ (c .loop-test .left) in
+    let ended = prefix-over isDigit (now .before .before .args .text .now) _ (c .loop-test .left) in
     omega (arith, ended, now .loop .inv .1)
 
 pub digits-spec : {M : Type 1} → statement M

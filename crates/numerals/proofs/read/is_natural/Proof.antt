@@ -3,7 +3,9 @@ use lib.ListN.{length}
 use native.Mathlib.Omega.{arith}
 use borrow.Author.Needs.{needs}
 use borrow.Author.Tests.{le-leb, lt-leb, ne-eqb}
-use Rattle.numerals.specs.DigitsRead.{digits-within, digit-at}
+use Rattle.numerals.specs.Bytes.{isDigit}
+use Rattle.numerals.specs.Prefix.{prefix-within}
+use Rattle.numerals.specs.DigitsRead.{digit-at}
 use Rattle.numerals.specs.Numerals.{digits}
 use Rattle.numerals.proofs.read.is_natural.Statement.{statement}
 use Rattle.numerals.proofs.read.is_natural.Tie as tie
@@ -20,7 +22,7 @@ returns-3 : tie.Need-returns-3
 returns-3 c = search needs
 
 shared-slice-read-result : tie.Need-shared-slice-read-result
-shared-slice-read-result c = omega (arith, digits-within (c .before .before .before .before .args .text .now))
+shared-slice-read-result c = omega (arith, prefix-within isDigit (c .before .before .before .before .args .text .now))
 
 returns-4 : tie.Need-returns-4
 returns-4 c =

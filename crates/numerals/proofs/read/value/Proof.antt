@@ -8,7 +8,9 @@ use native.Mathlib.Omega.{arith}
 use mir.Syntax.{w32}
 use mir.ValLaws.{toZ-pos}
 use borrow.Author.Needs.{needs}
-use Rattle.numerals.specs.DigitsRead.{digits-within, DigitAt, digit-at}
+use Rattle.numerals.specs.Bytes.{isDigit}
+use Rattle.numerals.specs.Prefix.{prefix-within}
+use Rattle.numerals.specs.DigitsRead.{DigitAt, digit-at}
 use Rattle.numerals.specs.Natural.{natural-parts}
 use Rattle.numerals.specs.Numerals.{digits, value}
 use Rattle.numerals.specs.Value.{value-short, value-go-on}
@@ -40,7 +42,7 @@ mul-sum : tie.Need-mul-sum Inv-loop μ-loop
 mul-sum c = record { fits = omega (arith, short (c .before)) }
 
 shared-slice-read-sum : tie.Need-shared-slice-read-sum Inv-loop μ-loop
-shared-slice-read-sum c = omega (arith, digits-within (c .before .before .before .args .text .now), passed (c .before))
+shared-slice-read-sum c = omega (arith, prefix-within isDigit (c .before .before .before .args .text .now), passed (c .before))
 
 sub-sum : tie.Need-sub-sum Inv-loop μ-loop
 sub-sum c = digit (c .before) .low

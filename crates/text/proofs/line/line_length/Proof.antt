@@ -1,11 +1,13 @@
 -- `text::line::line_length` meets its contract: none of the bytes passed is a line feed.
 use Prim.Native.Nat.{_+_, _-_, _≤_}
-use mathlib.Core.Path.{_≡_}
+use mathlib.Core.Path.{_≡_, ap}
+use mathlib.Core.Bool.{not}
 use native.Mathlib.Omega.{arith}
 use lib.ListN.{length, drop}
 use borrow.Author.Needs.{needs}
 use borrow.Author.Tests.{eq-eqb, ne-eqb}
-use Rattle.text.specs.LineLaws.{lineLength, line-goes-on, line-ends, line-over}
+use Rattle.numerals.specs.Prefix.{prefix-goes-on, prefix-ends, prefix-over}
+use Rattle.text.specs.LineLaws.{inLine, lineLength}
 use Rattle.text.proofs.line.line_length.Statement.{statement}
 use Rattle.text.proofs.line.line_length.Tie as tie
 
@@ -24,7 +26,7 @@ shared-slice-read-if1 c = search needs
 returns : tie.Need-returns Inv-loop μ-loop
 returns c =
     let at = c .before .before .before in
-    let ends = line-ends (at .before .args .text .now) (at .loop .n) (c .before .before .loop-test .taken) (eq-eqb _ _ (c .if1 .taken)) in
+    let ends = prefix-ends inLine (at .before .args .text .now) (at .loop .n) (c .before .before .loop-test .taken) (ap not (eq-eqb _ _ (c .if1 .taken))) in
     omega (arith, ends, at .loop .inv .1)
 
 add-n : tie.Need-add-n Inv-loop μ-loop
@@ -36,13 +38,13 @@ loop-less c = search needs
 loop-again : tie.Need-loop-again Inv-loop μ-loop
 loop-again c =
     let at = c .before .before .before in
-    let more = line-goes-on (at .before .args .text .now) (at .loop .n) (c .before .before .loop-test .taken) (ne-eqb _ _ (c .if1 .left)) in
+    let more = prefix-goes-on inLine (at .before .args .text .now) (at .loop .n) (c .before .before .loop-test .taken) (ap not (ne-eqb _ _ (c .if1 .left))) in
     (omega arith, omega (arith, more, at .loop .inv .1))
 
 returns-2 : tie.Need-returns-2 Inv-loop μ-loop
 returns-2 c =
     let at = c .before in
-    let over = line-over (at .before .args .text .now) (at .loop .n) (c .loop-test .left) in
+    let over = prefix-over inLine (at .before .args .text .now) (at .loop .n) (c .loop-test .left) in
     omega (arith, over, at .loop .inv .1)
 
 pub line-length-spec : {M : Type 1} → statement M
