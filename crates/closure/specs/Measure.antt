@@ -13,7 +13,7 @@ use Rattle.board.specs.declared.Board.{Board}
 use Rattle.board.specs.Paper.View.{Row, View, Live, Arc, Invalid, Side, early, late, bound, view, rowOf}
 use Rattle.board.specs.Paper.Facts.{Fact, is-arc, is-bound, Holds}
 use Rattle.board.specs.Inference.Infers.{Infers, r1, r2, r3, r45, r6}
-use Rattle.board.specs.Paper.Limits.{IsTime, Fits, Within, jobLimit, lastMinute}
+use Rattle.board.specs.Paper.Limits.{Fits, Within, jobLimit, lastMinute}
 use Rattle.board.specs.Order.Laws.{live-down, arc-up, bound-up}
 use Rattle.board.specs.Update.Extension.{Above}
 use Rattle.board.specs.Tests.Live.{live, live-yes, live-show}

@@ -1,9 +1,8 @@
 -- Detectable precedence is sound: a job that would end too late after another comes before it, as R3 infers.
-use mathlib.Core.Path.{_≡_, refl, ap, _∙_}
+use mathlib.Core.Path.{_≡_, ap, _∙_}
 use mathlib.Core.Bool.{true}
 use mathlib.Core.List.{List}
 use mathlib.Core.Logic.{_≢_}
-use mathlib.Core.Option.{some}
 use Prim.Native.Nat.{ℕ, _<_, _^_}
 use lib.IntN.{ℤ, pos, _+ℤ_}
 use lib.ListN.{getD, set}
@@ -18,8 +17,7 @@ use Rattle.board.specs.Paper.Rules.{E, L}
 use Rattle.board.specs.Tests.Decides.{retested, _and_, negated, holds, eq, live-is}
 use Rattle.board.specs.Inference.Infers.{r3}
 use Rattle.limits.specs.Marked.{unmarked, bit-live}
-use Rattle.propagation.specs.Reaches.{Reached, reaches-then}
-use Rattle.propagation.specs.Arcs.{withArcs, Sound, sound-link}
+use Rattle.propagation.specs.Arcs.{Sound, sound-link}
 
 -- On the board b the live job ends at `end` at the earliest, the jobs of `others` are live ones beside it, and the arrays are the
 -- board's own.
@@ -52,12 +50,3 @@ others-beside b lives width is job row place fits rest others e d k member =
     (retested (ap (λ w. bit w k) is ∙ bit-live b k) (live-is (view b) k) and negated (eq job k)) and negated (holds (bit row k)))
     in
     tests .yes (rw (d, e) at member) .0
-
--- one job more: all the other live jobs that have no arc to it yet were tested
-pub all-detected : (b : Board) (before after before' after' : List ℕ) → Reached b (withArcs b before after)
-    → (job : ℕ) → Live (view b) job → (end : ℤ) → end ≡ E (view b) job +ℤ L (view b) job
-    → (others : ℕ) → ((k : ℕ) → bit others k ≡ true → Live (view b) k × (job ≢ k))
-    → Sound (Ending job end others (b .latest) (b .lengths)) before after before' after' → Reached b (withArcs b before' after')
-all-detected b before after before' after' reached job live end ends others beside run =
-    reaches-then b (withArcs b before after) reached (some (withArcs b before' after')) (run b (reached .more .within)
-    (record { live = live; ends = ends; beside = beside; latest-is = refl; lengths-is = refl }))

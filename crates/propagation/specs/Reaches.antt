@@ -1,5 +1,5 @@
 -- Any run of inferences stays below every view above the board that obeys the rules.
-use mathlib.Core.Path.{_≡_, sym, _∙_, subst}
+use mathlib.Core.Path.{sym, _∙_, subst}
 use mathlib.Core.Option.{Option, some}
 use Rattle.board.specs.declared.Board.{Board}
 use Rattle.board.specs.Paper.View.{View, view}

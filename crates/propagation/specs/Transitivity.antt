@@ -2,7 +2,6 @@
 use mathlib.Core.Path.{_≡_, sym, _∙_}
 use mathlib.Core.Bool.{true}
 use mathlib.Core.List.{List}
-use mathlib.Core.Option.{some}
 use Prim.Native.Nat.{ℕ, _<_}
 use lib.ListN.{getD, set}
 use Rattle.words.specs.Bit.{bit, difference, with, without}
@@ -14,7 +13,7 @@ use Rattle.board.specs.Paper.Limits.{jobLimit, Within}
 use Rattle.board.specs.Tests.Decides.{Decides, retested, _and_, negated, holds, eq}
 use Rattle.board.specs.Tests.Ranges.{after-fits}
 use Rattle.board.specs.Inference.Infers.{Infers, r1}
-use Rattle.propagation.specs.Reaches.{Reached, reaches-then}
+use Rattle.propagation.specs.Reaches.{Reached}
 use Rattle.propagation.specs.Arcs.{withArcs, Sound, arc-stays, sound-link, sound-then}
 
 -- the jobs after `through` to which there is no arc from `from` yet
@@ -33,7 +32,7 @@ module _ (b : Board) (within : Within b) (from through : ℕ) (place : from < jo
       (retested (bit-without jobLimit (row through) from to (after-fits b within through) place) (holds (bit (row through) to) and negated (eq from to))
       and negated (holds (bit (row from) to)))
 
--- a job before a valid one, and the valid one
+-- job k is valid, and comes after job i
 abbrev pub Through : ℕ → Board → Type 0
 Through k b = Valid (view b) k
 
@@ -66,9 +65,3 @@ module _ (before after before' after' : List ℕ) where
   row-joined through run from member before'' after'' rest =
       sound-then (Through through) before after before' after' run (Forth from through) before'' after'' rest
       λ b h valid reached. (valid, arc-stays b before after before' after' reached h from through (sym (h .twice from through) ∙ member))
-
--- one valid job more
-pub all-joined : (b : Board) (before after before' after' : List ℕ) → Reached b (withArcs b before after) → (through : ℕ) → Valid (view b) through
-    → Sound (Through through) before after before' after' → Reached b (withArcs b before' after')
-all-joined b before after before' after' reached through valid run =
-    reaches-then b (withArcs b before after) reached (some (withArcs b before' after')) (run b (reached .more .within) valid)

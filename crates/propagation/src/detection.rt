@@ -3,7 +3,6 @@ use crate::arcs::link;
 use board::Board;
 use limits::marked::live;
 use rules::pair::is_late;
-ghost use mathlib.Core.Path.{_≡_};
 ghost use Prim.Native.Nat.{_<_};
 ghost use Rattle.minutes.specs.Time.{Moderate};
 ghost use Rattle.board.specs.Paper.Limits.{jobLimit, Within};

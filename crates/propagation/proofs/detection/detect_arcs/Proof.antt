@@ -1,6 +1,6 @@
 -- `propagation::detection::detect_arcs` meets its contract: one live job after the other. Assumes nothing.
 use borrow.Author.Needs.{needs}
-use mathlib.Core.Path.{_≡_, sym, ap, _∙_}
+use mathlib.Core.Path.{_≡_, refl, sym, ap, _∙_}
 use lib.IntN.{_+ℤ_}
 use mir.Syntax.{w32}
 use mir.Val.{toZ, ofZ}
@@ -14,8 +14,8 @@ use Rattle.energy.specs.Exact.{lengths-within}
 use Rattle.energy.specs.Laws.{time-fits, length-fits}
 use Rattle.limits.specs.Marked.{bit-live}
 use Rattle.propagation.specs.Reaches.{Reached, reached-self}
-use Rattle.propagation.specs.Arcs.{withArcs, ToCome, to-come, fewer}
-use Rattle.propagation.specs.Detection.{others-beside, all-detected}
+use Rattle.propagation.specs.Arcs.{withArcs, ToCome, to-come, fewer, sound-reached}
+use Rattle.propagation.specs.Detection.{Ending, others-beside}
 use Rattle.propagation.proofs.detection.detect_arcs.Statement.{statement}
 use Rattle.propagation.proofs.detection.detect_arcs.Tie as tie
 
@@ -117,9 +117,11 @@ loop-again c =
     let (left, reached) = at .loop .inv in
     let low = walk .before .lowest .ensures in
     let row = before-fits _ (reached .more .within) _ in
-    let beside = others-beside b _ (live .ok) (live .ensures) _ _ (low .width) row _ _ (taken .before .without2 .ensures) (taken .difference .ensures) in (
+    let beside = others-beside b _ (live .ok) (live .ensures) _ _ (low .width) row _ _ (taken .before .without2 .ensures) (taken .difference .ensures) in
+    let ending : Ending _ _ _ (b .latest) (b .lengths) (withArcs b _ _) =
+    record { live = left .member _ (low .member); ends = end-is sum; beside = beside; latest-is = refl; lengths-is = refl } in (
       fewer left low (walk .without .ensures) .0,
-      all-detected b _ _ _ _ reached _ (left .member _ (low .member)) _ (end-is sum) _ beside (c .detect-before .ensures),
+      sound-reached (Ending _ _ _ _ _) b _ _ _ _ reached ending (c .detect-before .ensures),
     )
 
 returns : tie.Need-returns Inv-loop μ-loop

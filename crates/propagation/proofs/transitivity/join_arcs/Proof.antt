@@ -6,8 +6,8 @@ use Rattle.board.specs.Paper.View.{Valid, view}
 use Rattle.board.specs.Tests.Decides.{valid-is}
 use Rattle.limits.specs.Marked.{bit-valid}
 use Rattle.propagation.specs.Reaches.{Reached, reached-self}
-use Rattle.propagation.specs.Arcs.{withArcs, ToCome, to-come, fewer}
-use Rattle.propagation.specs.Transitivity.{all-joined}
+use Rattle.propagation.specs.Arcs.{withArcs, ToCome, to-come, fewer, sound-reached}
+use Rattle.propagation.specs.Transitivity.{Through}
 use Rattle.propagation.proofs.transitivity.join_arcs.Statement.{statement}
 use Rattle.propagation.proofs.transitivity.join_arcs.Tie as tie
 
@@ -53,7 +53,7 @@ loop-again c =
     let walk = c .before .before .before in
     let (left, reached) = walk .before .before .before .loop .inv in
     let low = walk .before .lowest .ensures in
-    (fewer left low (walk .without .ensures) .0, all-joined _ _ _ _ _ reached _ (left .member _ (low .member)) (c .join-through .ensures))
+    (fewer left low (walk .without .ensures) .0, sound-reached (Through _) _ _ _ _ _ reached (left .member _ (low .member)) (c .join-through .ensures))
 
 returns : tie.Need-returns Inv-loop μ-loop
 returns c = c .before .loop .inv .1

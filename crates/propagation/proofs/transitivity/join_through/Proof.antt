@@ -2,7 +2,6 @@
 use borrow.Author.Needs.{needs}
 use mathlib.Core.Path.{_≡_}
 use mathlib.Core.Bool.{true}
-use lib.ListN.{getD}
 use Rattle.words.specs.Bit.{bit}
 use Rattle.propagation.specs.Arcs.{ToCome, to-come, fewer, Sound, sound-none}
 use Rattle.propagation.specs.Transitivity.{Through, row-joined}
