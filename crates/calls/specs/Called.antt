@@ -13,12 +13,11 @@ use Rattle.board.specs.Paper.Limits.{Within}
 use Rattle.updates.specs.Outcome.{outcomeOf}
 use Rattle.board.specs.Paper.View.{View, view}
 use Rattle.board.specs.Paper.Entries.{shown}
-use Rattle.board.specs.Update.Extension.{Above, above-self, Extends}
+use Rattle.board.specs.Update.Extension.{Above, Extends}
 use Rattle.board.specs.Update.Updates.{update, _andThen_}
 use Rattle.closure.specs.Check.{passes}
-use Rattle.closure.specs.Checked.{passes-within, passes-obeys}
+use Rattle.closure.specs.Checked.{passes-within}
 use Rattle.closure.specs.Closing.{closure}
-use Rattle.closure.specs.Closes.{closure-is}
 use Rattle.entries.specs.Paper.Entry.{Entry, withEntry}
 use Rattle.entries.specs.Paper.Gate.{checks, gate}
 use Rattle.entries.specs.Paper.Enter.{updateAll, raw, closureWith, acceptance, refused, concluded, judged, enter}
@@ -30,12 +29,6 @@ use Rattle.entries.specs.Raw.{raw-shown}
 pub possible-above : (n : ℕ) (P : View → Type 0) (b : Board) (o : Outcome) → Extends n P b (outcomeOf o) → o .possible ≡ true
     → Above n b (o .board)
 possible-above n P b o extends t = (rw t at extends) .more
-
--- a board that has passed check 0 is its own closure
-pub closed-already : (b : Board) → passes b ≡ true → closure b ≡ some b
-closed-already b p =
-    let within = passes-within b p in
-    closure-is b within (some b) (record { more = above-self b within; meets = passes-obeys b p; least = λ w up _ _. up })
 
 module _ (b : Board) (e : Entry) (p : passes b ≡ true) where
   judged-enter : (o : Option Refusal) → o ≡ gate (checks (b .jobs) e) → judged b e o ≡ enter b e

@@ -1,5 +1,5 @@
 -- The test of check 0 holds exactly of the boards within the limits that are closed over what they show.
-use mathlib.Core.Path.{_≡_, refl}
+use mathlib.Core.Path.{_≡_, refl, sym}
 use mathlib.Core.Logic.{_↔_}
 use mathlib.Core.Bool.{true}
 use mathlib.Core.Option.{Option, none, some}
@@ -20,7 +20,10 @@ use Rattle.board.specs.Inference.Agrees.{obeys-rules, rules-obey}
 use Rattle.closure.specs.Find.{find}
 use Rattle.closure.specs.FindSound.{find-sound}
 use Rattle.closure.specs.FindComplete.{find-complete}
+use Rattle.propagation.specs.Reaches.{reached-self}
+use Rattle.closure.specs.Closing.{closure}
 use Rattle.closure.specs.Closes.{lengths}
+use Rattle.closure.specs.Stepping.{reached-closure}
 use Rattle.closure.specs.Check.{nothingLeft, passes}
 
 settled-none : (o : Option Fact) → nothingLeft o ≡ true → o ≡ none
@@ -43,6 +46,10 @@ module _ (b : Board) where
   passes-obeys e =
       find-complete (view b) (lengths b (passes-within e))
       (settled-none (find (view b)) (and-parts (withinLimits b) (nothingLeft (find (view b))) e .1))
+
+  -- such a board is its own closure
+  pub closed-already : passes b ≡ true → closure b ≡ some b
+  closed-already e = let within = passes-within e in sym (reached-closure b b within (reached-self b within) (passes-obeys e))
 
   pub obeys-passes : Within b → Obeys (view b) → passes b ≡ true
   unfolding passes

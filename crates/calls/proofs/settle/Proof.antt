@@ -5,7 +5,7 @@ use mathlib.Core.Bool.{true}
 use borrow.Author.Needs.{needs}
 use borrow.Author.Tests.{not-true, not-false}
 use Rattle.board.specs.Update.Updates.{_andThen_}
-use Rattle.calls.specs.Called.{closed-already}
+use Rattle.closure.specs.Checked.{closed-already}
 use Rattle.calls.proofs.settle.Statement.{statement}
 use Rattle.calls.proofs.settle.Tie as tie
 
