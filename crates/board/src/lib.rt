@@ -7,7 +7,8 @@ pub mod facts;
 pub mod range;
 
 // A place k below `jobs` is job k. A place without a job holds 0 in everything. Bit k of `after[i]` is the arc from i to k,
-// and bit i of `before[k]` is the same arc, kept a second time so that either set is one word.
+// and bit i of `before[k]` is the same arc, kept a second time so that either set is one word. A host in C or Rust keeps the same struct.
+#[repr(C)]
 pub struct Board {
     pub jobs: usize,
     pub lengths: [i32; Board::JOBS],
