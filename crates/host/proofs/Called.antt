@@ -1,5 +1,5 @@
 -- The call by value that each call on the host's own board makes: of a dock that holds a copy of the board, with n numbers.
--- It ensures Q of the board, the numbers and what it gives.
+-- It may ask a fact of the board, and ensures Q of the board, the numbers and what it gives.
 -- Assumes nothing.
 use mathlib.Core.List.{List, [], _∷_}
 use Prim.Native.Nat.{ℕ}
@@ -34,6 +34,8 @@ use Rattle.board.proofs.Board.Laws as B′
 use Rattle.dock.specs.declared.Dock.{Dock}
 use Rattle.dock.proofs.Dock as D
 use Rattle.dock.proofs.Dock.Laws as D′
+use Rattle.host.proofs.Asked as asked
+use Rattle.host.proofs.Asked.{Asks, Holds}
 use Rattle.host.proofs.Numbers.{slots, rows, kept, Numbers, given, Fit, own-numbers}
 
 -- a board's machine value; the dock that holds the board, and its machine value
@@ -95,9 +97,13 @@ module _ (n : ℕ) (R : RattleType) where
     kept = (yes, kept 0 n);
   }
 
-  module _ (Q : Board → Numbers n → R .Denot → Type 0) {M : Type 1} (𝓤 : URA M) where
+  module _ (asks : Asks) (Q : Board → Numbers n → R .Denot → Type 0) {M : Type 1} (𝓤 : URA M) where
     abbrev ensures : Clauses 𝓤 by-value
-    ensures κs a = record { ghost = Unit {0}; requires = λ g. emp 𝓤; ensures = λ g r end. fact 𝓤 (Q (a .0 .board) (a .1) r) }
+    ensures κs a = record {
+      ghost = Unit {0};
+      requires = λ g. asked.clause 𝓤 asks (a .0 .board);
+      ensures = λ g r end. fact 𝓤 (Q (a .0 .board) (a .1) r);
+    }
 
     module _ (H : Heap 𝓤) (A : Atoms 𝓤) where
       abbrev pub ByValue : Contract 𝓤
@@ -107,12 +113,12 @@ module _ (n : ℕ) (R : RattleType) where
         abbrev pub arguments : ByValue .Ghost
         arguments = ((tt, tt, tt, (holding h, zs), (dock-val h ∷ [], given 0 tt n zs)), tt)
 
-        asked : Given 𝓤 H A → IsBoard h → Fit 0 tt n zs → ent 𝓤 (emp 𝓤) (ByValue .pre arguments)
-        asked W is fits =
-            qed W [] ∵ nothing ! $ nothing ! $
+        met : Given 𝓤 H A → Holds asks h → IsBoard h → Fit 0 tt n zs → ent 𝓤 (emp 𝓤) (ByValue .pre arguments)
+        met W holds is fits =
+            qed W [] ∵ states ! (asked.said 𝓤 asks h holds) $ nothing ! $
             use0 W (‵ (owns (rows 0 tt n) zs (given 0 tt n zs))) (own-numbers 𝓤 H A W 0 tt n zs fits) $
             owned ! D.the-row (Is D.the-row) (LL.makes D.the-type D′.the-plain 𝓤 H A) (holding h) _ (is-dock h is) $
-            fjoin ! $ move ! (1 ∷ 0 ∷ []) $ join ! $ done !
+            fjoin ! $ move ! (1 ∷ 0 ∷ []) $ done !
 
         abbrev Said : R .Denot → SProp 𝓤
         Said r = ensured 𝓤 H A by-value ensures tt (holding h, zs) tt r
@@ -123,13 +129,13 @@ module _ (n : ℕ) (R : RattleType) where
         -- the call as a step of a walk: what it gives is at the head of the context, to be stored
         pub calls : {K : Type 0} {W : Given 𝓤 H A} {Γ : List (Item 𝓤)} {C : Calls 𝓤 H} {Λ : Loops 𝓤 H} {E : Env 𝓤 H}
             {q : Post 𝓤 H} {callee : Name} {xs : List Operand} {d : Place} {rest : Body}
-            → K → FmC 𝓤 H (W .laws) C → Triple 𝓤 (C callee) ByValue → IsBoard h → Fit 0 tt n zs
+            → K → FmC 𝓤 H (W .laws) C → Triple 𝓤 (C callee) ByValue → Holds asks h → IsBoard h → Fit 0 tt n zs
             → Opds K W (raw (ByValue .pre arguments) ∷ Γ) E xs (ByValue .args arguments)
             → ((r : R .Denot) (v : Val) → Q h zs r → Is R r (v ∷ [])
             → Seq K W (‵ (R .own r (v ∷ [])) ∷ Γ) (lands C Λ E d v rest q))
             → Seq K W Γ (runs C Λ E (seq (call callee xs d) rest) q)
-        calls {W = W} t fm known is fits os k =
-            use0 W (raw (ByValue .pre arguments)) (asked W is fits) $ calls-at t fm ByValue known arguments os (λ v.
+        calls {W = W} t fm known holds is fits os k =
+            use0 W (raw (ByValue .pre arguments)) (met W holds is fits) $ calls-at t fm ByValue known arguments os (λ v.
             use1 W (later (some (λ (r : R .Denot). (‵ ftrue ⊛ ‵ (R .own r (v ∷ []))) ⊛ raw (Said r)))) (id⊢ 𝓤 _) $
             await t tt $ pick t (λ r. split t $ move t (1 ∷ []) $ use1 W (raw (fact 𝓤 (Q h zs r))) (said r) $
             heard t (Q h zs r) (λ e. split t $ drop t $ peeks t R (Is R) (shows 𝓤 H A R) r (v ∷ []) (λ made. k r v e made))))

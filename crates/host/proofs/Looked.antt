@@ -1,6 +1,6 @@
 -- "The host's own board" is looked at where it is kept: one law for every reading call by shared reference. The function
 -- calls by value with a copy of the board and returns the answer. Where the call by value ensures Q of the board, the numbers
--- and the answer, the function ensures what follows from Q.
+-- and the answer, the function ensures what follows from Q; what the call asks of the board, the function asks.
 -- Assumes nothing.
 use mathlib.Core.Path.{_≡_, refl, subst}
 use mathlib.Core.List.{List, [], _∷_}
@@ -10,7 +10,7 @@ use lib.Dec.{T}
 use mir.Syntax.{Name, Ty, named, imm, tyRef, place, deref, copy, rvOpd, aggregate, seq, assign, call, return}
 use mir.Syntax.{local, valueLocal, Fn}
 use mir.Val.{Val, vptr, WT, hasTy}
-use base.Logic.{SProp, ent, emp, via, fst∗}
+use base.Logic.{SProp, ent, emp}
 use base.Fml.{GName, Lft, Share, Fml, ftrue, fsep, flft, fres, fshr-bor}
 use prog.Model.{Model}
 use prog.Routine.{Env, Routine}
@@ -45,6 +45,7 @@ use Rattle.board.specs.declared.Board.{Board}
 use Rattle.board.proofs.Board as B
 use Rattle.board.proofs.Board.Laws as B′
 use Rattle.dock.proofs.Dock.Laws as D′
+use Rattle.host.proofs.Asked.{Asks, Holds, clause, learned}
 use Rattle.host.proofs.Called.{board-val, board-typed, dock-typed, spelled, states, ByValue, calls}
 use Rattle.host.proofs.Numbers.{slots, rows, kept, Numbers, numbers, spells, told, given, Fit, fit}
 use Rattle.host.proofs.Numbers.{dropped, unsaid, unasked, Had, had, gone}
@@ -86,9 +87,9 @@ module _ (n : ℕ) (R : RattleType) (lowers : Lowered R) where
   abbrev Says : {M : Type 1} → URA M → Type 2
   Says 𝓤 = (κs : Lfts 1) (a : Args (by-reference .signature) κs) → Unit {0} → R .Denot → AtExit by-reference κs → SProp 𝓤
 
-  module _ (Q : Board → Numbers n → R .Denot → Type 0) {M : Type 1} (𝓤 : URA M) (S : Says 𝓤) where
+  module _ (asks : Asks) (Q : Board → Numbers n → R .Denot → Type 0) {M : Type 1} (𝓤 : URA M) (S : Says 𝓤) where
     abbrev looked : Clauses 𝓤 by-reference
-    looked κs a = record { ghost = Unit {0}; requires = λ g. emp 𝓤; ensures = S κs a }
+    looked κs a = record { ghost = Unit {0}; requires = λ g. clause 𝓤 asks (now (a .0)); ensures = S κs a }
 
     -- it follows from Q of the answer
     abbrev pub Follows : Type 1
@@ -101,7 +102,7 @@ module _ (n : ℕ) (R : RattleType) (lowers : Lowered R) where
       Looks run = Meets 𝓤 H A (by-reference .signature) run (closing 𝓤 H A by-reference looked)
 
       module _ (W : Given 𝓤 H A) (lawful : Lawful 𝓤 H A R) (follows : Follows) (κ : Lft) (q : Share) (b o : ℕ) (γ : GName)
-          (h : Board) (a : Denots (rows 1 (κ, tt) n)) (fits : Fit 1 (κ, tt) n a) where
+          (h : Board) (holds : Holds asks h) (a : Denots (rows 1 (κ, tt) n)) (fits : Fit 1 (κ, tt) n a) where
         abbrev zs : Numbers n
         zs = numbers 1 (κ, tt) n a
 
@@ -140,7 +141,7 @@ module _ (n : ℕ) (R : RattleType) (lowers : Lowered R) where
             use0 W (‵ (Had 1 (κ, tt) n a)) (had 1 𝓤 H A (κ, tt) n a) $ move ! (1 ∷ 0 ∷ []) $ fjoin ! $ frame ! $ done !
 
         module _ (C : Calls 𝓤 H) (Λ : Loops 𝓤 H) (fm : FmC 𝓤 H (W .laws) C) (callee : Name)
-            (known : Triple 𝓤 (C callee) (ByValue n R Q 𝓤 H A)) where
+            (known : Triple 𝓤 (C callee) (ByValue n R asks Q 𝓤 H A)) where
           walk : ent 𝓤 (onEntry 𝓤 H A (by-reference .signature) (κ, tt) (q, tt) (y .0 .3) (y .0 .4))
               (WpFn 𝓤 H C Λ (function callee) args Post)
           walk =
@@ -161,7 +162,7 @@ module _ (n : ℕ) (R : RattleType) (lowers : Lowered R) where
               shuts ! tt B.the-row q′ h (board-val h ∷ []) b o $
               assigns ! (agg ! (and-then ! (load ! (other ! n bs _ 1 (stop !)) (look ! 3 refl)) (no-more !)))
               (other ! n bs _ 0 (stop !)) (init ! 5 refl (dock-typed W h is)) $
-              calls n R Q 𝓤 H A h zs ! fm known is (fit 1 (κ, tt) n a fits)
+              calls n R asks Q 𝓤 H A h zs ! fm known holds is (fit 1 (κ, tt) n a fits)
               (and-then ! (load ! (other ! n bs _ 0 (stop !)) (look ! 6 refl)) (look-numbers ! 3 n bs zs _ refl))
               (λ r v e made. land ! (from ! (stop !)) (init ! 10 refl (typed r v made)) $
               -- [what the answer owns; the token; the fractured borrow; the numbers; the board; …; the dock; …; _1; …; _0; …;
@@ -172,7 +173,7 @@ module _ (n : ℕ) (R : RattleType) (lowers : Lowered R) where
               keep ! (0 ∷ 1 ∷ 2 ∷ 3 ∷ []) $ by ! (exits r v e)))))))))
 
       meets : Given 𝓤 H A → Lawful 𝓤 H A R → Follows → (𝓣 : Tables 𝓤 H) (callee : Name)
-          → Triple 𝓤 (𝓣 .C callee) (ByValue n R Q 𝓤 H A) → Looks (WpFn 𝓤 H (𝓣 .C) (𝓣 .Λ) (function callee))
+          → Triple 𝓤 (𝓣 .C callee) (ByValue n R asks Q 𝓤 H A) → Looks (WpFn 𝓤 H (𝓣 .C) (𝓣 .Λ) (function callee))
       meets W lawful follows 𝓣 callee known =
           let run : Fun 𝓤 = WpFn 𝓤 H (𝓣 .C) (𝓣 .Λ) (function callee) in
           walk-meets 𝓤 H A by-reference stayed W
@@ -180,21 +181,21 @@ module _ (n : ℕ) (R : RattleType) (lowers : Lowered R) where
           looked run (WpFn-mono 𝓤 H (W .laws) 𝓣 (function callee))
           (walked 𝓤 H A by-reference stayed looked run (λ κs. (ptr-vals, spells 1 κs n))
           (λ κs. (shr-tells (named 0) (κs .0) B.the-row, told 1 κs n))
-          (λ κs qs bounds a g are. via 𝓤 _ (fst∗ 𝓤 _ (emp 𝓤))
-          (walk W lawful follows (κs .0) (qs .0) (a .0 .ptr .0) (a .0 .ptr .1) (a .0 .name) (a .0 .now) (a .1) (are .1)
+          (λ κs qs bounds a g are. learned 𝓤 asks (now (a .0)) (λ holds.
+          walk W lawful follows (κs .0) (qs .0) (a .0 .ptr .0) (a .0 .ptr .1) (a .0 .name) (a .0 .now) holds (a .1) (are .1)
           (𝓣 .C) (𝓣 .Λ) (fmOf 𝓤 H (W .laws) 𝓣) callee known)))
 
   -- the law, as a function's proof cites it
-  module _ (Q : Board → Numbers n → R .Denot → Type 0) {M : Type 1} (𝓤 : URA M) (H : Heap 𝓤) (𝓜 : Model 𝓤 H)
+  module _ (asks : Asks) (Q : Board → Numbers n → R .Denot → Type 0) {M : Type 1} (𝓤 : URA M) (H : Heap 𝓤) (𝓜 : Model 𝓤 H)
       (𝓖 : GhostRules 𝓤 H) (𝓡 : Running 𝓤 H 𝓜) where
-    pub law : (Given 𝓤 H (𝓖 .A) → Lawful 𝓤 H (𝓖 .A) R) → (S : Says 𝓤) → Follows Q 𝓤 S
+    pub law : (Given 𝓤 H (𝓖 .A) → Lawful 𝓤 H (𝓖 .A) R) → (S : Says 𝓤) → Follows asks Q 𝓤 S
         → (env : Env) (name callee : Name) (routine : Routine)
         → Closed 𝓤 H (tables 𝓤 H 𝓜 𝓡 env .C) (tables 𝓤 H 𝓜 𝓡 env .Λ) name (function callee) → env callee ≡ routine
-        → Triple 𝓤 (𝓡 .run routine) (ByValue n R Q 𝓤 H (𝓖 .A)) → Looks Q 𝓤 S H (𝓖 .A) (𝓡 .run (env name))
+        → Triple 𝓤 (𝓡 .run routine) (ByValue n R asks Q 𝓤 H (𝓖 .A)) → Looks asks Q 𝓤 S H (𝓖 .A) (𝓡 .run (env name))
     unfolding tablesOf
     law lawful S follows env name callee routine closed calls met =
         let W : Given 𝓤 H (𝓖 .A) = givenOf 𝓤 H 𝓜 𝓖 in
-        entered 𝓤 H (tripleOf 𝓤 H (𝓖 .A) (by-reference .signature) (closing 𝓤 H (𝓖 .A) by-reference (looked Q 𝓤 S)))
+        entered 𝓤 H (tripleOf 𝓤 H (𝓖 .A) (by-reference .signature) (closing 𝓤 H (𝓖 .A) by-reference (looked asks Q 𝓤 S)))
         (tables 𝓤 H 𝓜 𝓡 env .C) (tables 𝓤 H 𝓜 𝓡 env .Λ) name (function callee) closed
-        (meets Q 𝓤 S H (𝓖 .A) W (lawful W) follows (tablesOf 𝓤 H 𝓜 (tables 𝓤 H 𝓜 𝓡 env)) callee
-        (cited 𝓤 H (ByValue n R Q 𝓤 H (𝓖 .A)) 𝓜 𝓡 env callee routine calls met))
+        (meets asks Q 𝓤 S H (𝓖 .A) W (lawful W) follows (tablesOf 𝓤 H 𝓜 (tables 𝓤 H 𝓜 𝓡 env)) callee
+        (cited 𝓤 H (ByValue n R asks Q 𝓤 H (𝓖 .A)) 𝓜 𝓡 env callee routine calls met))

@@ -43,6 +43,7 @@ use Rattle.entries.proofs.Answer as A′
 use Rattle.entries.proofs.Answer.Laws as A″
 use Rattle.host.proofs.Altered.{by-reference}
 use Rattle.host.proofs.Called.{board-val, IsBoard, spelled}
+use Rattle.host.proofs.Handed.{entered}
 use Rattle.host.proofs.Numbers.{rows, Numbers, numbers, given, Fit, taken, taken-are, taken-given, taken-fit, own-numbers}
 
 -- an answer and a board, as one; an answer's machine value
@@ -56,7 +57,7 @@ abbrev pub IsAnswer : Answer → Type 0
 IsAnswer r = Is A′.the-row r (answer-val r ∷ [])
 
 module _ (n : ℕ) (Q : Board → Numbers n → Entered → Type 0) {M : Type 1} (𝓤 : URA M) where
-  abbrev ensures : Clauses 𝓤 (by-reference n)
+  abbrev ensures : Clauses 𝓤 (by-reference n entered)
   ensures κs a = record {
     ghost = Unit {0};
     requires = λ g. emp 𝓤;
@@ -65,7 +66,7 @@ module _ (n : ℕ) (Q : Board → Numbers n → Entered → Type 0) {M : Type 1}
 
   module _ (H : Heap 𝓤) (A : Atoms 𝓤) where
     abbrev pub InPlace : Contract 𝓤
-    InPlace = tripleOf 𝓤 H A (by-reference n .signature) (closing 𝓤 H A (by-reference n) ensures)
+    InPlace = tripleOf 𝓤 H A (by-reference n entered .signature) (closing 𝓤 H A (by-reference n entered) ensures)
 
     -- the board h lies in the local l
     module _ (h : Board) (zs : Numbers n) (l : ℕ) where
@@ -105,8 +106,8 @@ module _ (n : ℕ) (Q : Board → Numbers n → Entered → Type 0) {M : Type 1}
         abbrev left : Val → Item 𝓤
         left v =
             some (λ (r : Answer). ((‵ token ⊛ ‵ ftrue) ⊛ ‵ (A′.the-row .own r (v ∷ [])))
-            ⊛ some (λ (ws : Lasts (by-reference n) κs (reference, a)).
-            ‵ (lasts (by-reference n) κs (reference, a) ws) ⊛ raw (fact 𝓤 (Q h (numbers 1 κs n a) (both r (ws .0))))))
+            ⊛ some (λ (ws : Lasts (by-reference n entered) κs (reference, a)).
+            ‵ (lasts (by-reference n entered) κs (reference, a) ws) ⊛ raw (fact 𝓤 (Q h (numbers 1 κs n a) (both r (ws .0))))))
 
       -- the operands are read while the board is lent, with two entries in front of the context
       pub lends : {K : Type 0} {W : Given 𝓤 H A} {Γ : List (Item 𝓤)} {C : Calls 𝓤 H} {Λ : Loops 𝓤 H} {E : Env 𝓤 H}

@@ -1,5 +1,6 @@
 -- `host::pair` meets its contract, by the law of a board that is looked at where it is kept. Assumes nothing.
 use mathlib.Core.Path.{_≡_}
+use mathlib.Core.Option.{none}
 use denote.Enum.Laws.{lawful}
 use Rattle.entries.specs.Paper.Looking as looking
 use Rattle.entries.proofs.PairAnswer as T
@@ -16,7 +17,7 @@ use Rattle.host.proofs.pair.Statement.{statement}
 pub pair-spec : {M : Type 1} → statement M
 unfolding code.routine
 pair-spec 𝓤 H 𝓜 𝓖 𝓡 =
-    law 2 T.the-row T′.lowers (λ b z r. r ≡ looking.pair b (z .0) (z .1 .0)) 𝓤 H 𝓜 𝓖 𝓡
+    law 2 T.the-row T′.lowers none (λ b z r. r ≡ looking.pair b (z .0) (z .1 .0)) 𝓤 H 𝓜 𝓖 𝓡
     (λ W. lawful T.the-type T′.the-laws 𝓤 H (𝓖 .A) W tt)
     (λ κs a. pair.clauses 𝓤 H (𝓖 .A) (𝓜 .mem) (𝓡 .run) κs a .ensures) (λ κs a r e. holds 𝓤 e)
     code.env name by-value.name by-value.routine (code.unfolded 𝓤 H 𝓜 𝓡) code.calls-dock·Dock·pair (met 𝓤 H 𝓜 𝓖 𝓡)
