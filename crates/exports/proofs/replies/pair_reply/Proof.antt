@@ -1,0 +1,28 @@
+-- `replies::pair_reply` meets its contract, case by case. Assumes nothing.
+use borrow.Author.Needs.{needs}
+use mir.Syntax.{w32}
+use mir.Val.{SFits}
+use mir.ValLaws.{toZ-ofZ}
+use Rattle.exports.proofs.replies.pair_reply.Statement.{statement}
+use Rattle.exports.proofs.replies.pair_reply.Tie as tie
+
+enum-known-pair : tie.Need-enum-known-pair
+enum-known-pair c = search needs
+
+enum-known-pair-2 : tie.Need-enum-known-pair-2
+enum-known-pair-2 c = search needs
+
+number-requires : tie.Need-number-requires
+number-requires c κs = search needs
+
+returns : tie.Need-returns
+returns c =
+    let fits : SFits w32 (c .before .pair .given .0 .1 .0) = search needs in
+    rw (c .before .pair .given .1) (simp (toZ-ofZ, fits))
+
+returns-2 : tie.Need-returns-2
+returns-2 c = rw (c .before .before .pair2 .given .1, c .number .ensures)
+
+pub pair-reply-spec : {M : Type 1} → statement M
+pair-reply-spec =
+    tie.close (tie.spec enum-known-pair enum-known-pair-2 number-requires returns returns-2)

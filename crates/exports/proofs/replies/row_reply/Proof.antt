@@ -1,0 +1,30 @@
+-- `replies::row_reply` meets its contract, case by case. Assumes nothing.
+use borrow.Author.Needs.{needs}
+use mir.Syntax.{w32}
+use mir.Val.{SFits}
+use mir.ValLaws.{toZ-ofZ}
+use Rattle.exports.proofs.replies.row_reply.Statement.{statement}
+use Rattle.exports.proofs.replies.row_reply.Tie as tie
+
+enum-known-row : tie.Need-enum-known-row
+enum-known-row c = search needs
+
+enum-known-row-2 : tie.Need-enum-known-row-2
+enum-known-row-2 c = search needs
+
+number-requires : tie.Need-number-requires
+number-requires c κs = search needs
+
+returns : tie.Need-returns
+returns c =
+    let row = c .before .row .given .0 in
+    let early : SFits w32 (row .1 .0) = search needs in
+    let late : SFits w32 (row .1 .1 .0) = search needs in
+    rw (c .before .row .given .1) (simp (toZ-ofZ, early, late))
+
+returns-2 : tie.Need-returns-2
+returns-2 c = rw (c .before .before .row2 .given .1, c .number .ensures)
+
+pub row-reply-spec : {M : Type 1} → statement M
+row-reply-spec =
+    tie.close (tie.spec enum-known-row enum-known-row-2 number-requires returns returns-2)

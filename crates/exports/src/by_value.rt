@@ -1,0 +1,58 @@
+// The calls by value with their replies in numbers: check 0 is among their checks.
+use crate::replies::PairReply;
+use crate::replies::PlanReply;
+use crate::replies::Replied;
+use crate::replies::RowReply;
+use crate::replies::pair_reply;
+use crate::replies::plan_reply;
+use crate::replies::reply_and_board;
+use crate::replies::row_reply;
+use dock::Dock;
+ghost use mathlib.Core.Path.{_≡_};
+ghost use Rattle.entries.specs.Paper.Entry as entry;
+ghost use Rattle.entries.specs.Paper.Enter as paper;
+ghost use Rattle.entries.specs.Paper.Looking as looking;
+ghost use Rattle.tries.specs.Paper.Planner as planning;
+ghost use Rattle.exports.specs.Replies.{replied, rowReply, pairReply, planReply};
+
+pub fn addition(dock: Dock, length: i32, earliest: i32, latest: i32, mark: i32) -> Replied
+    ensures { λ r. ⌜ r ≡ replied (paper.enter (dock .board) (entry.addition length earliest latest mark)) ⌝ }
+{
+    reply_and_board(dock.addition(length, earliest, latest, mark))
+}
+
+pub fn arc(dock: Dock, from: i32, to: i32) -> Replied
+    ensures { λ r. ⌜ r ≡ replied (paper.enter (dock .board) (entry.other (entry.arc from to))) ⌝ }
+{
+    reply_and_board(dock.arc(from, to))
+}
+
+pub fn mark(dock: Dock, job: i32, mark: i32) -> Replied
+    ensures { λ r. ⌜ r ≡ replied (paper.enter (dock .board) (entry.other (entry.mark job mark))) ⌝ }
+{
+    reply_and_board(dock.mark(job, mark))
+}
+
+pub fn cut(dock: Dock, job: i32, earliest: i32, latest: i32) -> Replied
+    ensures { λ r. ⌜ r ≡ replied (paper.enter (dock .board) (entry.other (entry.cut job earliest latest))) ⌝ }
+{
+    reply_and_board(dock.cut(job, earliest, latest))
+}
+
+pub fn row(dock: Dock, job: i32) -> RowReply
+    ensures { λ r. ⌜ r ≡ rowReply (looking.row (dock .board) job) ⌝ }
+{
+    row_reply(dock.row(job))
+}
+
+pub fn pair(dock: Dock, a: i32, b: i32) -> PairReply
+    ensures { λ r. ⌜ r ≡ pairReply (looking.pair (dock .board) a b) ⌝ }
+{
+    pair_reply(dock.pair(a, b))
+}
+
+pub fn plan(dock: Dock, budget: i32) -> PlanReply
+    ensures { λ r. ⌜ r ≡ planReply (planning.plan (dock .board) budget) ⌝ }
+{
+    plan_reply(dock.plan(budget))
+}
