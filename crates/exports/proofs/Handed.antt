@@ -1,6 +1,11 @@
--- What the entry calls by value hand back here: a reply in numbers and the board. Assumes nothing.
+-- What the entry calls by value hand back here, a reply in numbers and the board; and what those on a checked board ask of it.
+-- Assumes nothing.
+use mathlib.Core.Path.{_≡_}
+use mathlib.Core.Bool.{true}
 use mathlib.Core.List.{[], _∷_}
 use denote.Struct.Laws as LL
+use Rattle.board.specs.declared.Board.{Board}
+use Rattle.closure.specs.Check.{passes}
 use Rattle.host.proofs.Handed.{Handed}
 use Rattle.exports.proofs.replies.Reply as R
 use Rattle.exports.proofs.replies.Reply.Laws as R′
@@ -23,3 +28,7 @@ replied = record {
   reply-makes = LL.makes R.the-type R′.the-plain;
   typed = λ 𝓤 H A W r v made. LL.lawful T.the-type T′.the-laws 𝓤 H A W .typed r (v ∷ []) made .0;
 }
+
+-- the board has passed check 0
+abbrev pub Passing : Board → Type 0
+Passing b = passes b ≡ true

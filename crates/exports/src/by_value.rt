@@ -1,4 +1,4 @@
-// The calls by value with their replies in numbers: check 0 is among their checks.
+// The calls by value with their replies in numbers; check 0 is among their checks.
 use crate::replies::PairReply;
 use crate::replies::PlanReply;
 use crate::replies::Replied;
@@ -9,11 +9,18 @@ use crate::replies::reply_and_board;
 use crate::replies::row_reply;
 use dock::Dock;
 ghost use mathlib.Core.Path.{_≡_};
+ghost use Rattle.closure.specs.Check as check;
 ghost use Rattle.entries.specs.Paper.Entry as entry;
 ghost use Rattle.entries.specs.Paper.Enter as paper;
 ghost use Rattle.entries.specs.Paper.Looking as looking;
 ghost use Rattle.tries.specs.Paper.Planner as planning;
 ghost use Rattle.exports.specs.Replies.{replied, rowReply, pairReply, planReply};
+
+pub fn passes(dock: Dock) -> bool
+    ensures { λ r. ⌜ r ≡ check.passes (dock .board) ⌝ }
+{
+    closure::check::passes(dock.board)
+}
 
 pub fn addition(dock: Dock, length: i32, earliest: i32, latest: i32, mark: i32) -> Replied
     ensures { λ r. ⌜ r ≡ replied (paper.enter (dock .board) (entry.addition length earliest latest mark)) ⌝ }

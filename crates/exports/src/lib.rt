@@ -1,17 +1,22 @@
 // The calls for a host in C or Rust that keeps the board: they alter it where it is kept, or look at it there, and their replies are
 // structs of numbers. Any board may be handed in; check 0 is among their checks.
+use crate::replies::PairReply;
+use crate::replies::PlanReply;
 use crate::replies::Reply;
 use crate::replies::RowReply;
 use board::Board;
 use dock::Dock;
 ghost use mathlib.Core.Path.{_≡_};
 ghost use Rattle.board.specs.Paper.Limits.{emptyBoard};
+ghost use Rattle.closure.specs.Check as check;
 ghost use Rattle.entries.specs.Paper.Entry as entry;
 ghost use Rattle.entries.specs.Paper.Enter as paper;
 ghost use Rattle.entries.specs.Paper.Looking as looking;
-ghost use Rattle.exports.specs.Replies.{replied, rowReply};
+ghost use Rattle.tries.specs.Paper.Planner as planning;
+ghost use Rattle.exports.specs.Replies.{replied, rowReply, pairReply, planReply};
 
 pub mod by_value;
+pub mod checked;
 pub mod replies;
 
 // A board without jobs whose tally starts at 0.
@@ -20,6 +25,15 @@ pub extern "C" fn bayboard_empty() -> Board
     ensures { λ r. ⌜ r ≡ emptyBoard 0 ⌝ }
 {
     Board::empty()
+}
+
+// Does the board pass check 0? If so, the calls of `checked` may be made on it.
+#[no_mangle]
+pub extern "C" fn bayboard_passes(board: &Board) -> bool
+    ensures { λ r. ⌜ r ≡ check.passes (now (board .entry)) ⌝ }
+{
+    let dock = Dock { board: *board };
+    by_value::passes(dock)
 }
 
 // "Addition: length, E, D, mark 0 or 1; gives the job's number."
@@ -39,6 +53,39 @@ pub extern "C" fn bayboard_addition(
     replied.reply
 }
 
+// "Arc A to B: if both take place, A ends no later than B starts."
+#[no_mangle]
+pub extern "C" fn bayboard_arc(board: &mut Board, from: i32, to: i32) -> Reply
+    ensures { λ r. ⌜ record { reply = r; board = now (board .exit) } ≡ replied (paper.enter (now (board .entry)) (entry.other (entry.arc from to))) ⌝ }
+{
+    let dock = Dock { board: *board };
+    let replied = by_value::arc(dock, from, to);
+    *board = replied.board;
+    replied.reply
+}
+
+// "Mark a job 1 or 2."
+#[no_mangle]
+pub extern "C" fn bayboard_mark(board: &mut Board, job: i32, mark: i32) -> Reply
+    ensures { λ r. ⌜ record { reply = r; board = now (board .exit) } ≡ replied (paper.enter (now (board .entry)) (entry.other (entry.mark job mark))) ⌝ }
+{
+    let dock = Dock { board: *board };
+    let replied = by_value::mark(dock, job, mark);
+    *board = replied.board;
+    replied.reply
+}
+
+// "Cut a job with a window E, D: the later E and the earlier D hold."
+#[no_mangle]
+pub extern "C" fn bayboard_cut(board: &mut Board, job: i32, earliest: i32, latest: i32) -> Reply
+    ensures { λ r. ⌜ record { reply = r; board = now (board .exit) } ≡ replied (paper.enter (now (board .entry)) (entry.other (entry.cut job earliest latest))) ⌝ }
+{
+    let dock = Dock { board: *board };
+    let replied = by_value::cut(dock, job, earliest, latest);
+    *board = replied.board;
+    replied.reply
+}
+
 // "Row of a job: mark, E, D, the set before it and the set after it."
 #[no_mangle]
 pub extern "C" fn bayboard_row(board: &Board, job: i32) -> RowReply
@@ -46,4 +93,22 @@ pub extern "C" fn bayboard_row(board: &Board, job: i32) -> RowReply
 {
     let dock = Dock { board: *board };
     by_value::row(dock, job)
+}
+
+// "Pair of A, B: 0 no arc, 1 A to B, 2 B to A, 3 both; and the gap"
+#[no_mangle]
+pub extern "C" fn bayboard_pair(board: &Board, a: i32, b: i32) -> PairReply
+    ensures { λ r. ⌜ r ≡ pairReply (looking.pair (now (board .entry)) a b) ⌝ }
+{
+    let dock = Dock { board: *board };
+    by_value::pair(dock, a, b)
+}
+
+// "It takes the board and a budget, 0 to 1000000." and "alters nothing".
+#[no_mangle]
+pub extern "C" fn bayboard_plan(board: &Board, budget: i32) -> PlanReply
+    ensures { λ r. ⌜ r ≡ planReply (planning.plan (now (board .entry)) budget) ⌝ }
+{
+    let dock = Dock { board: *board };
+    by_value::plan(dock, budget)
 }
