@@ -1,8 +1,7 @@
 -- The replies of the exported calls: what each case of an answer is in numbers, and 0 in every field that the case doesn't use.
 use mathlib.Core.Bool.{true, false}
-use mathlib.Core.List.{List}
 use Prim.Native.Nat.{ℕ}
-use lib.IntN.{ℤ, pos}
+use lib.IntN.{pos}
 use Rattle.board.specs.Paper.Refusals.{numberOf}
 use Rattle.entries.specs.declared.Answer.{Answer}
 use Rattle.entries.specs.declared.Answer.the-variants as Answers

@@ -13,7 +13,7 @@ use prog.Wp.{Heap, Env, Calls, Loops}
 use ghost.Atoms.{Atoms, sem}
 use contract.Monad.{fact, factI}
 use types.Kit.{Given, Item, ‵, raw, _⊛_, some, later, Post, Goal, prop, Seq, Step, step, runs, lands}
-use types.Kit.{_$_, _∵_, !, qed, move, drop, use0, use1, split, join, pick, fjoin, await, done}
+use types.Kit.{_$_, _∵_, !, qed, move, drop, use0, use1, split, pick, fjoin, await, done}
 use types.Run.{Opds}
 use sound.WpLaws.{FmC}
 use denote.RattleType.{RattleType, owns}

@@ -1,0 +1,17 @@
+//! Links the static library, which `rt staticlib exports` makes in the repository's `target/staticlib`.
+use std::env;
+use std::path::PathBuf;
+
+fn main() {
+    let package = PathBuf::from(env::var("CARGO_MANIFEST_DIR").expect("cargo sets it"));
+    let folder = package.join("../../target/staticlib");
+    let archive = folder.join("libexports.a");
+    assert!(
+        archive.exists(),
+        "{} is missing: `rt staticlib exports` makes it",
+        archive.display()
+    );
+    println!("cargo:rerun-if-changed={}", archive.display());
+    println!("cargo:rustc-link-search=native={}", folder.display());
+    println!("cargo:rustc-link-lib=static=exports");
+}

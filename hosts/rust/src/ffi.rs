@@ -1,0 +1,84 @@
+//! The library's structs and functions as C has them. Nothing holds these declarations to the library but the layout below and
+//! the examples, which call each function.
+use crate::{Board, JOBS};
+use std::mem::{offset_of, size_of};
+
+#[repr(C)]
+pub struct Reply {
+    pub accepted: bool,
+    pub number: u64,
+}
+
+#[repr(C)]
+pub struct RowReply {
+    pub accepted: bool,
+    pub refusal: u32,
+    pub mark: u8,
+    pub earliest: i32,
+    pub latest: i32,
+    pub before: u64,
+    pub after: u64,
+}
+
+#[repr(C)]
+pub struct PairReply {
+    pub accepted: bool,
+    pub refusal: u32,
+    pub arcs: u8,
+    pub gap: i32,
+}
+
+#[repr(C)]
+pub struct PlanReply {
+    pub ending: u8,
+    pub number: u32,
+    pub placed: u64,
+    pub starts: [i32; JOBS],
+}
+
+unsafe extern "C" {
+    // For every board: they ask nothing beyond what holds of a reference.
+    pub safe fn bayboard_empty() -> Board;
+    pub safe fn bayboard_passes(board: &Board) -> bool;
+    pub safe fn bayboard_addition(
+        board: &mut Board,
+        length: i32,
+        earliest: i32,
+        latest: i32,
+        mark: i32,
+    ) -> Reply;
+    pub safe fn bayboard_arc(board: &mut Board, from: i32, to: i32) -> Reply;
+    pub safe fn bayboard_mark(board: &mut Board, job: i32, mark: i32) -> Reply;
+    pub safe fn bayboard_cut(board: &mut Board, job: i32, earliest: i32, latest: i32) -> Reply;
+    pub safe fn bayboard_row(board: &Board, job: i32) -> RowReply;
+    pub safe fn bayboard_pair(board: &Board, a: i32, b: i32) -> PairReply;
+    pub safe fn bayboard_plan(board: &Board, budget: i32) -> PlanReply;
+
+    // For a board that passes check 0.
+    pub unsafe fn bayboard_checked_addition(
+        board: &mut Board,
+        length: i32,
+        earliest: i32,
+        latest: i32,
+        mark: i32,
+    ) -> Reply;
+    pub unsafe fn bayboard_checked_arc(board: &mut Board, from: i32, to: i32) -> Reply;
+    pub unsafe fn bayboard_checked_mark(board: &mut Board, job: i32, mark: i32) -> Reply;
+    pub unsafe fn bayboard_checked_cut(
+        board: &mut Board,
+        job: i32,
+        earliest: i32,
+        latest: i32,
+    ) -> Reply;
+    pub unsafe fn bayboard_checked_row(board: &Board, job: i32) -> RowReply;
+    pub unsafe fn bayboard_checked_pair(board: &Board, a: i32, b: i32) -> PairReply;
+    pub unsafe fn bayboard_checked_plan(board: &Board, budget: i32) -> PlanReply;
+}
+
+// The layout that the library has, as in hosts/c/bayboard.h.
+const _: () = assert!(size_of::<Board>() == 1872 && offset_of!(Board, tally) == 1864);
+const _: () = assert!(offset_of!(Board, lengths) == 8 && offset_of!(Board, earliest) == 264);
+const _: () = assert!(offset_of!(Board, latest) == 520 && offset_of!(Board, marks) == 776);
+const _: () = assert!(offset_of!(Board, after) == 840 && offset_of!(Board, before) == 1352);
+const _: () = assert!(size_of::<Reply>() == 16 && size_of::<RowReply>() == 40);
+const _: () = assert!(size_of::<PairReply>() == 16 && size_of::<PlanReply>() == 272);
