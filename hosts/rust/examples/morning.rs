@@ -59,6 +59,7 @@ fn main() -> Result<(), Refusal> {
     } else {
         let mut board = Board::empty();
         book(&mut board)?;
+        assert!(board.passes());
         print(&board, &board)
     }
 }
