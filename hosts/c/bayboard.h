@@ -129,7 +129,8 @@ bayboard_plan_reply bayboard_plan(const bayboard *board, int32_t budget);
  * the board passes; on another nothing is promised, and a call may not be safe. A board passes that is
  * - what bayboard_empty gave,
  * - one that bayboard_passes said true of, or
- * - what any call above or below left of such a board, refused or not, where nobody else wrote it since. */
+ * - what any call above or below left of such a board, refused or not, where nobody else wrote it since
+ * (theorems `empty-passes` and `left-passes` in crates/exports/specs/Passing.antt). */
 bayboard_reply bayboard_checked_addition(bayboard *board, int32_t length, int32_t earliest, int32_t latest, int32_t mark);
 bayboard_reply bayboard_checked_arc(bayboard *board, int32_t from, int32_t to);
 bayboard_reply bayboard_checked_mark(bayboard *board, int32_t job, int32_t mark);

@@ -1,5 +1,5 @@
-// The same calls on a board that has passed check 0, which they don't test again. Such a board is the empty one, one that
-// `bayboard_passes` accepts, and one that any sequence of calls leaves of these: `calls-later` in `Rattle.entries.specs.Later`.
+// The same calls on a board that has passed check 0, which they don't test again. The empty board passes, and what a call leaves of
+// a board that passes: `empty-passes` and `left-passes` in specs/Passing.antt.
 use crate::replies::PairReply;
 use crate::replies::PlanReply;
 use crate::replies::Reply;

@@ -5,9 +5,9 @@ use crate::{ffi, Board, Calls, Mark, Pair, Plan, Refusal, Row};
 /// A board that passes check 0.
 #[derive(Clone, Debug, PartialEq, Eq)]
 pub struct Dock {
-    // It passes check 0: it starts as the empty board (theorem `empty-passes` in crates/closure) or as one that
-    // `bayboard_passes` accepted; only the calls below write it; and what a call leaves of a board that passes, refused or not,
-    // passes too (theorem `calls-later` in crates/entries).
+    // It passes check 0. It starts as the empty board (theorem `empty-passes`) or as one that `bayboard_passes` accepted; only the
+    // calls below write it, and what a call leaves of a board that passes, refused or not, passes too (theorem `left-passes`):
+    // crates/exports/specs/Passing.antt.
     board: Board,
 }
 

@@ -1,0 +1,19 @@
+-- Why a host may go on making the calls that ask for check 0: the empty board passes it, and so does what a call leaves of a board
+-- that passes, refused or not.
+use mathlib.Core.Path.{_≡_}
+use mathlib.Core.Bool.{true}
+use native.Mathlib.Omega.{arith}
+use Rattle.board.specs.declared.Board.{Board}
+use Rattle.board.specs.Paper.Limits.{emptyBoard}
+use Rattle.closure.specs.Check.{passes}
+use Rattle.closure.specs.Checked as checked
+use Rattle.entries.specs.Paper.Entry.{Entry}
+use Rattle.entries.specs.Paper.Enter.{enter}
+use Rattle.entries.specs.Later.{call-later}
+use Rattle.exports.specs.Replies.{replied}
+
+pub empty-passes : passes (emptyBoard 0) ≡ true
+empty-passes = checked.empty-passes 0 (omega arith)
+
+pub left-passes : (b : Board) (e : Entry) → passes b ≡ true → passes (replied (enter b e) .board) ≡ true
+left-passes b e p = call-later b e p .passes
