@@ -15,7 +15,7 @@ ghost use Rattle.entries.specs.Paper.Looking as looking;
 ghost use Rattle.tries.specs.Paper.Planner as planning;
 ghost use Rattle.exports.specs.Replies.{replied, rowReply, pairReply, planReply};
 
-pub mod by_value;
+mod by_value;
 
 // "Addition: length, E, D, mark 0 or 1; gives the job's number."
 #[no_mangle]
