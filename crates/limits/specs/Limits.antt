@@ -1,8 +1,8 @@
--- The limits of a board as the code tests them: each row by itself, and each word of arcs by itself, the words after a job
--- like those before it. Together these are the limits.
+-- The limits of a board as the code tests them: what each place holds by itself, and that the words after the jobs agree with
+-- the words before them. Together these are the limits.
 use mathlib.Core.Path.{_≡_, refl, sym, ap, _∙_}
 use mathlib.Core.Logic.{_≢_}
-use mathlib.Core.Bool.{Bool, true, _&&_}
+use mathlib.Core.Bool.{Bool, true, false, not, _&&_, _||_}
 use mathlib.Core.List.{List}
 use Prim.Native.Nat.{ℕ, _<_, _≤_, _^_}
 use native.Mathlib.Decide.{decLt}
@@ -11,26 +11,22 @@ use lib.Dec.{eqb}
 use lib.IntN.{ℤ, pos}
 use lib.ListN.{length, getD}
 use borrow.Author.Tests.{eq-eqb}
-use Rattle.words.specs.Bit.{bit, without, difference}
-use Rattle.words.specs.BitLaws.{bit-zero, subset-yes, subset-show, bit-without, without-lt}
-use Rattle.minutes.specs.Bools.{refuted, same-tests}
+use Rattle.words.specs.Bit.{bit, width, union}
+use Rattle.words.specs.BitLaws.{bit-zero, bit-high, bit-ext, union-none}
+use Rattle.minutes.specs.Bools.{refuted, is-false, same-tests}
 use Rattle.minutes.specs.Linear.{whole}
 use Rattle.board.specs.declared.Board.{Board}
 use Rattle.board.specs.Paper.View.{Row, view, rowOf, arcOf, arcIntoOf, Live, Arc}
 use Rattle.board.specs.Paper.Limits.{jobLimit, tallyLimit, zeroRow, RowLimits, Shape, Within}
 use Rattle.board.specs.Tests.Limits.{between, isZero, isLength, isTime, isZeroRow, fits, withinLimits}
-use Rattle.board.specs.Tests.Decides.{Decides, restated, same-decision, holds, negated, _and_, eq, live-is}
+use Rattle.board.specs.Tests.Decides.{Decides, restated, same-decision, holds, negated, eq}
 use Rattle.board.specs.Tests.LimitsDecided.{decides-between, decides-zero, decides-fits, decides-zeroRow, decides-limits, past, past-row}
-use Rattle.limits.specs.Marked.{unmarked, bit-live}
+use Rattle.limits.specs.Agreement.{Agree}
 
 -- ---- rows
 
 abbrev pub row : ℕ → ℤ → ℤ → ℤ → Row
 row m l e d = record { mark = m; length = l; earliest = e; latest = d }
-
--- every place holds a row within its limits
-abbrev pub Rows : Board → Type 0
-Rows b = (k : ℕ) → k < jobLimit → RowLimits (b .jobs) k (rowOf b k)
 
 -- the test of 0 as the code makes it
 pub zero-between : (z : ℤ) → between (pos 0) (pos 0) z ≡ isZero z
@@ -82,59 +78,69 @@ module _ (n k m : ℕ) (l e d : ℤ) where
 
 -- ---- words
 
--- the members of place i's word are live, and i is none of them
-abbrev pub Joins : ℕ → ℕ → ℕ → Type 0
-Joins live i word = (k : ℕ) → bit word k ≡ true → (bit live k ≡ true) × (i ≢ k)
+-- The members of the words of place k: the place is a live job's, and no arc leads from it to itself.
+abbrev pub Joins : ℕ → ℕ → ℕ → ℕ → ℕ → Type 0
+Joins n k m after before =
+    ((x : ℕ) → bit after x ≡ true → (k < n) × (m ≢ 2) × (x < width) × (k ≢ x))
+    × ((x : ℕ) → bit before x ≡ true → (k < n) × (m ≢ 2) × (x < width))
 
--- job i is in the word of each member of the set
-abbrev pub Mirrored : List ℕ → ℕ → ℕ → Type 0
-Mirrored words set i = (k : ℕ) → bit set k ≡ true → bit (getD words k 0) i ≡ true
-
--- The words of one side. That place i itself is live follows from the other side, whose words have i.
-abbrev pub OneSide : ℕ → List ℕ → List ℕ → Type 0
-OneSide live side other = (i : ℕ) → i < jobLimit → Joins live i (getD side i 0) × Mirrored other (getD side i 0) i
-
-abbrev pub Arcs : Board → Type 0
-Arcs b =
-    let live = unmarked (b .jobs) (b .marks) 2 in
-    OneSide live (b .after) (b .before) × OneSide live (b .before) (b .after)
-
--- what the code's one test of a word decides
-pub decides-joins : (n live i word : ℕ) → live < 2 ^ n → word < 2 ^ n → i < n
-    → Decides (eqb (difference n word (without n live i)) 0) (Joins live i word)
-decides-joins n live i word fl fw l =
-    restated (eq (difference n word others) 0)
-    (λ e k h. member k .yes (subset-yes n word others fw fo e k h))
-    (λ h. subset-show n word others fw fo λ k e. member k .show (h k e))
+-- a member of a word is below its width
+member-below : (n w x : ℕ) → w < 2 ^ n → bit w x ≡ true → x < n
+member-below n w x l e = go (decLt x n)
   where
-    others : ℕ
-    others = without n live i
+    go : Dec (x < n) → x < n
+    go (yes h) = h
+    go (no h) = absurd (refuted (bit-high n w x l (omega arith)) e)
 
-    fo : others < 2 ^ n
-    fo = without-lt n live i fl
+module _ (n k m after before : ℕ) where
+  pub decides-none : (k < n → m ≢ 2 → ⊥) → Decides (eqb (union after before) 0) (Joins n k m after before)
+  unfolding union
+  decides-none dead = restated (eq (union after before) 0) none λ (a, b).
+      rw (empty after (λ x e. let (l, v, w, s) = a x e in dead l v), empty before (λ x e. let (l, v, w) = b x e in dead l v))
+    where
+      out : (word : ℕ) → word ≡ 0 → (x : ℕ) → bit word x ≡ true → ⊥
+      out word z x e = refuted (bit-zero x) (rw z at e)
 
-    member : (k : ℕ) → Decides (bit others k) ((bit live k ≡ true) × (i ≢ k))
-    member k = rw (bit-without n live i k fl l) (holds (bit live k) and negated (eq i k))
+      none : union after before ≡ 0 → Joins n k m after before
+      none e = let (a, b) = union-none after before e in (λ x h. absurd (out after a x h), λ x h. absurd (out before b x h))
+
+      empty : (word : ℕ) → ((x : ℕ) → bit word x ≡ true → ⊥) → word ≡ 0
+      empty word h = bit-ext word 0 λ x. is-false (bit word x) (h x) ∙ sym (bit-zero x)
+
+  pub decides-own : k < n → m ≢ 2 → after < 2 ^ width → before < 2 ^ width → Decides (not (bit after k)) (Joins n k m after before)
+  decides-own l v fa fb =
+      restated (negated (holds (bit after k)))
+      (λ own. (λ x e. (l, v, member-below width after x fa e, λ s. own (ap (bit after) s ∙ e)), λ x e. (l, v, member-below width before x fb e)))
+      (λ (a, b) e. a k e .3 refl)
+
+-- what place k holds, and what every place holds
+abbrev pub Place : ℕ → List ℕ → List ℤ → List ℤ → List ℤ → List ℕ → List ℕ → ℕ → Type 0
+Place n marks lengths earliest latest after before k =
+    let m = getD marks k 0 in
+    RowLimits n k (row m (getD lengths k (pos 0)) (getD earliest k (pos 0)) (getD latest k (pos 0)))
+    × Joins n k m (getD after k 0) (getD before k 0)
+
+abbrev pub Places : ℕ → List ℕ → List ℤ → List ℤ → List ℤ → List ℕ → List ℕ → Type 0
+Places n marks lengths earliest latest after before =
+    (k : ℕ) → k < jobLimit → Place n marks lengths earliest latest after before k
 
 -- ---- the board
 
 module _ (b : Board) where
-  abbrev members : ℕ
-  members = unmarked (b .jobs) (b .marks) 2
+  abbrev pub Held : Type 0
+  Held = Places (b .jobs) (b .marks) (b .lengths) (b .earliest) (b .latest) (b .after) (b .before)
 
-  is-live : (k : ℕ) → Decides (bit members k) (Live (view b) k)
-  is-live k = rw (bit-live b k) (live-is (view b) k)
-
-  within-arcs : Within b → Arcs b
-  within-arcs w = (after, before)
+  within-held : Within b → Held
+  within-held w k l = (w .limits .rows k, (after, before))
     where
-      after : OneSide members (b .after) (b .before)
-      after i l = (λ k e. let (x, y, n) = w .limits .arcs i k e in (is-live k .show y, n), λ k e. w .twice i k ∙ e)
+      below : {x : ℕ} → x < b .jobs → x < width
+      below h = omega (arith, w .limits .jobs)
 
-      before : OneSide members (b .before) (b .after)
-      before i l =
-          let arc : (k : ℕ) → arcIntoOf b i k ≡ true → arcOf b k i ≡ true = λ k e. sym (w .twice k i) ∙ e in
-          (λ k e. let (x, y, n) = w .limits .arcs k i (arc k e) in (is-live k .show x, λ s. n (sym s)), arc)
+      after : (x : ℕ) → arcOf b k x ≡ true → (k < b .jobs) × (getD (b .marks) k 0 ≢ 2) × (x < width) × (k ≢ x)
+      after x e = let (i, j, n) = w .limits .arcs k x e in (i .0, i .1, below (j .0), n)
+
+      before : (x : ℕ) → arcIntoOf b k x ≡ true → (k < b .jobs) × (getD (b .marks) k 0 ≢ 2) × (x < width)
+      before x e = let (i, j, n) = w .limits .arcs x k (sym (w .twice x k) ∙ e) in (j .0, j .1, below (i .0))
 
   module _ (s : Shape b) (jobs : b .jobs ≤ jobLimit) (tally : b .tally ≤ tallyLimit) where
     -- a word with a member is at one of the 64 places
@@ -145,37 +151,37 @@ module _ (b : Board) where
         go (yes l) = l
         go (no l) = absurd (refuted (bit-zero k) (rw (past words 0 full i (omega arith)) at e))
 
-    rows : Rows b → (k : ℕ) → RowLimits (b .jobs) k (rowOf b k)
-    rows h k = go (decLt k jobLimit)
-      where
-        go : Dec (k < jobLimit) → RowLimits (b .jobs) k (rowOf b k)
-        go (yes l) = h k l
-        go (no l) = blank-limits (b .jobs) k (rowOf b k) (omega arith) (past-row b s k (omega arith))
-
-    arcs-within : Rows b → Arcs b → Within b
-    arcs-within h (after, before) =
+    held-within : Held → Agree (b .after) (b .before) → Within b
+    held-within h agree =
         record {
           shape = s;
-          limits = record { jobs = jobs; rows = rows h; arcs = arcs };
+          limits = record { jobs = jobs; rows = rows; arcs = arcs };
           twice = λ i k. same-tests (arcIntoOf b k i) (arcOf b i k) (out i k) (into i k);
           tally = tally;
         }
       where
+        rows : (k : ℕ) → RowLimits (b .jobs) k (rowOf b k)
+        rows k = go (decLt k jobLimit)
+          where
+            go : Dec (k < jobLimit) → RowLimits (b .jobs) k (rowOf b k)
+            go (yes l) = h k l .0
+            go (no l) = blank-limits (b .jobs) k (rowOf b k) (omega arith) (past-row b s k (omega arith))
+
         into : (i k : ℕ) → arcOf b i k ≡ true → arcIntoOf b k i ≡ true
-        into i k e = after i (place (b .after) (s .after) i k e) .1 k e
+        into i k e = let l = place (b .after) (s .after) i k e in agree i k l (h i l .1 .0 k e .2) ∙ e
 
         out : (i k : ℕ) → arcIntoOf b k i ≡ true → arcOf b i k ≡ true
-        out i k e = before k (place (b .before) (s .before) k i e) .1 i e
+        out i k e = let l = place (b .before) (s .before) k i e in sym (agree i k (h k l .1 .1 i e .2) l) ∙ e
 
         arcs : (i k : ℕ) → Arc (view b) i k → Live (view b) i × Live (view b) k × (i ≢ k)
         arcs i k e =
-            let e′ = into i k e in
-            let (x, n) = after i (place (b .after) (s .after) i k e) .0 k e in
-            (is-live i .yes (before k (place (b .before) (s .before) k i e′) .0 i e′ .0), is-live k .yes x, n)
+            let (li, vi, w, n) = h i (place (b .after) (s .after) i k e) .1 .0 k e in
+            let (lk, vk, v) = h k w .1 .1 i (into i k e) in
+            ((li, vi), (lk, vk), n)
 
-    -- tests of the rows and of the arcs test the limits
-    pub limits-tested : {t : Bool} → Decides t (Rows b × Arcs b) → t ≡ withinLimits b
+    -- tests of the places and of the agreement test the limits
+    pub limits-tested : {t : Bool} → Decides t (Held × Agree (b .after) (b .before)) → t ≡ withinLimits b
     limits-tested d =
         same-decision
-        (restated d (λ h. arcs-within (h .0) (h .1)) (λ w. (λ k l. w .limits .rows k, within-arcs w)))
+        (restated d (λ h. held-within (h .0) (h .1)) (λ w. (within-held w, λ i k li lk. w .twice i k)))
         (decides-limits b)

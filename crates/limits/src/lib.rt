@@ -1,17 +1,20 @@
 // The test of "the board handed in breaks a limit above, [or] keeps something twice that doesn't agree".
+use crate::agreement::agree;
 use board::Board;
 use board::range::between;
 use board::range::is_length;
 use board::range::is_time;
 ghost use mathlib.Core.Path.{_≡_};
 ghost use mathlib.Core.Bool.{_&&_};
-ghost use Prim.Native.Nat.{_<_, _≤_};
+ghost use Prim.Native.Nat.{_<_};
 ghost use Rattle.board.specs.Paper.Limits.{jobLimit, RowLimits};
 ghost use Rattle.board.specs.Tests.Decides.{Decides};
 ghost use Rattle.board.specs.Tests.Limits as limits;
 ghost use Rattle.limits.specs.Limits as parts;
 
+pub mod agreement;
 pub mod marked;
+pub mod transpose;
 
 fn is_zero(z: i32) -> bool
     ensures { λ r. ⌜ r ≡ limits.isZero z ⌝ }
@@ -46,73 +49,59 @@ fn row_holds(jobs: usize, k: usize, mark: u8, length: i32, earliest: i32, latest
     mark < Board::INVALID && fits(length, earliest, latest)
 }
 
-fn rows_hold(b: Board) -> bool
-    ensures { λ r. ⌜ Decides r (parts.Rows b) ⌝ }
+// The words of place k: a job with an arc is live, and has none to itself.
+fn joins(jobs: usize, k: usize, mark: u8, after: u64, before: u64) -> bool
+    requires { ⌜ k < jobLimit ⌝ }
+    ensures { λ r. ⌜ Decides r (parts.Joins jobs k mark after before) ⌝ }
+{
+    if jobs <= k || mark == Board::INVALID {
+        return words::union(after, before) == 0;
+    }
+    !words::has(after, k)
+}
+
+fn place_holds(
+    jobs: usize,
+    k: usize,
+    mark: u8,
+    length: i32,
+    earliest: i32,
+    latest: i32,
+    after: u64,
+    before: u64,
+) -> bool
+    requires { ⌜ k < jobLimit ⌝ }
+    ensures { λ r. ⌜ Decides r (RowLimits jobs k (parts.row mark length earliest latest) × parts.Joins jobs k mark after before) ⌝ }
+{
+    row_holds(jobs, k, mark, length, earliest, latest) && joins(jobs, k, mark, after, before)
+}
+
+fn places_hold<'a>(
+    jobs: usize,
+    marks: &'a [u8; Board::JOBS],
+    lengths: &'a [i32; Board::JOBS],
+    earliest: &'a [i32; Board::JOBS],
+    latest: &'a [i32; Board::JOBS],
+    after: &'a [u64; Board::JOBS],
+    before: &'a [u64; Board::JOBS],
+) -> bool
+    ensures { λ r. ⌜ Decides r (parts.Places jobs (now (marks .entry)) (now (lengths .entry)) (now (earliest .entry)) (now (latest .entry)) (now (after .entry)) (now (before .entry))) ⌝ }
 {
     for k in 0..Board::JOBS {
-        if !row_holds(
-            b.jobs,
+        if !place_holds(
+            jobs,
             k,
-            b.marks[k],
-            b.lengths[k],
-            b.earliest[k],
-            b.latest[k],
+            marks[k],
+            lengths[k],
+            earliest[k],
+            latest[k],
+            after[k],
+            before[k],
         ) {
             return false;
         }
     }
     true
-}
-
-// "An arc joins two different jobs of the board", and both are live: has the word of place i such jobs alone?
-fn joins(live: u64, i: usize, word: u64) -> bool
-    requires { ⌜ i < jobLimit ⌝ }
-    ensures { λ r. ⌜ Decides r (parts.Joins live i word) ⌝ }
-{
-    words::difference(word, words::without(live, i)) == 0
-}
-
-// Is job i in the word of each member of the set?
-fn mirrored(words: &[u64; Board::JOBS], set: u64, i: usize) -> bool
-    requires { ⌜ i < jobLimit ⌝ }
-    ensures { λ r. ⌜ Decides r (parts.Mirrored (now (words .entry)) set i) ⌝ }
-{
-    let mut left = set;
-    while left != 0 {
-        let k = words::lowest(left);
-        left = words::without(left, k);
-        if !words::has(words[k], i) {
-            return false;
-        }
-    }
-    true
-}
-
-// The word of place i on one side, with the words of the other side.
-fn word_holds(live: u64, other: &[u64; Board::JOBS], i: usize, word: u64) -> bool
-    requires { ⌜ i < jobLimit ⌝ }
-    ensures { λ r. ⌜ Decides r (parts.Joins live i word × parts.Mirrored (now (other .entry)) word i) ⌝ }
-{
-    joins(live, i, word) && mirrored(other, word, i)
-}
-
-fn side_holds<'a>(live: u64, side: &'a [u64; Board::JOBS], other: &'a [u64; Board::JOBS]) -> bool
-    ensures { λ r. ⌜ Decides r (parts.OneSide live (now (side .entry)) (now (other .entry))) ⌝ }
-{
-    for i in 0..Board::JOBS {
-        if !word_holds(live, other, i, side[i]) {
-            return false;
-        }
-    }
-    true
-}
-
-fn arcs_hold(b: Board) -> bool
-    requires { ⌜ b .jobs ≤ jobLimit ⌝ }
-    ensures { λ r. ⌜ Decides r (parts.Arcs b) ⌝ }
-{
-    let live = marked::live(b.jobs, &b.marks);
-    side_holds(live, &b.after, &b.before) && side_holds(live, &b.before, &b.after)
 }
 
 pub fn within_limits(b: Board) -> bool
@@ -121,5 +110,14 @@ pub fn within_limits(b: Board) -> bool
     if b.jobs > Board::JOBS || b.tally > Board::TALLY {
         return false;
     }
-    rows_hold(b) && arcs_hold(b)
+    places_hold(
+        b.jobs,
+        &b.marks,
+        &b.lengths,
+        &b.earliest,
+        &b.latest,
+        &b.after,
+        &b.before,
+    )
+        && agree(&b.after, &b.before)
 }

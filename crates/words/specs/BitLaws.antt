@@ -1,7 +1,7 @@
 -- What the operations on words do to the members of a set: the laws, at any width. Nothing but this file and Bit opens
 -- `bit`. Assumes nothing.
 use Prim.Native.Nat.{ℕ, zero, suc, _+_, _-_, _*_, _/_, _%_, _^_, _≤_, _<_}
-use mathlib.Core.Bool.{Bool, true, false, cond, not, _&&_, _||_, or-true, or-false}
+use mathlib.Core.Bool.{Bool, true, false, cond, not, _&&_, _||_, xor, or-true, or-false, and-true}
 use mathlib.Core.Path.{_≡_, refl, sym, ap, _∙_, subst, subst⁻¹}
 use mathlib.Core.Logic.{_≢_}
 use native.Mathlib.Decide.{decLt, ℕ-discrete}
@@ -9,10 +9,10 @@ use native.Mathlib.Nat.{div-eq-of-lt, div-one, lt-of-lt-of-le, lt-of-le-of-lt, m
 use native.Mathlib.Numerals.{add-one}
 use native.Mathlib.Omega.{arith}
 use lib.Arith.{bin-ind}
-use lib.Bits.{bitAnd, bitOr, and-le-l, and-le-r, and-mask, and-mod, and-shr, or-mod, or-shr}
+use lib.Bits.{bitAnd, bitOr, bitXor, and-le-l, and-le-r, and-mask, and-mod, and-shr, or-add-and, or-mod, or-shr, xor-add-and, xor-mod, xor-shr, shifted-even, shifted-half}
 use lib.Dec.{eqb, ltb, eqb·zero-suc, eqb·suc-zero, eqb·suc-suc, leb·suc-zero, leb·suc-suc}
 use borrow.Author.Tests.{lt-ltb, le-ltb, eq-eqb, ne-eqb, not-false}
-use lib.Pow.{pow-lt, pow-mono, pow-pos, shr-shr, split}
+use lib.Pow.{pow-lt, pow-mono, pow-pos, shl-shr, shr-shr, split}
 use Rattle.words.specs.Bit.{bit, singleton, union, intersection, difference, with, without, setOf}
 
 -- ---- digits
@@ -37,7 +37,7 @@ same-digit a b e = told a ∙ ap (λ (t : Bool). cond t 1 0) e ∙ sym (told b)
     told : (w : ℕ) → w % 2 ≡ cond (bit w 0) 1 0
     told w = rw bit-low (digit (λ (d : ℕ). d ≡ cond (eqb d 1) 1 0) refl refl w)
 
-bit-shift : (w i k : ℕ) → bit (w / 2 ^ i) k ≡ bit w (i + k)
+pub bit-shift : (w i k : ℕ) → bit (w / 2 ^ i) k ≡ bit w (i + k)
 unfolding bit
 bit-shift w i k = ap (λ (x : ℕ). eqb (x % 2) 1) (shr-shr w i k)
 
@@ -113,6 +113,10 @@ pub bit-intersection : (a b k : ℕ) → bit (intersection a b) k ≡ (bit a k &
 unfolding intersection
 bit-intersection = bit-op bitAnd _&&_ and-shr and-mod refl refl refl refl
 
+pub bit-xor : (a b k : ℕ) → bit (bitXor a b) k ≡ xor (bit a k) (bit b k)
+unfolding xor
+bit-xor = bit-op bitXor xor xor-shr xor-mod refl refl refl refl
+
 bit-complement : (n b k : ℕ) → b < 2 ^ n → k < n → bit (2 ^ n - 1 - b) k ≡ not (bit b k)
 bit-complement zero b k h l = absurd (omega arith)
 bit-complement (suc n) b zero h l =
@@ -143,6 +147,14 @@ module _ (n a b : ℕ) (ha : a < 2 ^ n) (hb : b < 2 ^ n) where
 
   pub subset-yes : difference n a b ≡ 0 → (k : ℕ) → bit a k ≡ true → bit b k ≡ true
   subset-yes e k h = not-false (bit b k) (rw h at (sym (bit-difference n a b k ha hb) ∙ ap (λ (x : ℕ). bit x k) e ∙ bit-zero k))
+
+-- a union is empty where both sets are, and only there; and words that differ in no bit are the same
+pub union-none : (a b : ℕ) → union a b ≡ 0 → (a ≡ 0) × (b ≡ 0)
+unfolding union
+union-none a b e = omega (arith, or-add-and a b, and-le-l a b, and-le-r a b)
+
+pub xor-none : (a b : ℕ) → bitXor a b ≡ 0 → a ≡ b
+xor-none a b e = omega (arith, xor-add-and a b, and-le-l a b, and-le-r a b)
 
 -- ---- ranges
 
@@ -230,3 +242,21 @@ bit-tested w k = ap (λ (x : ℕ). eqb x 1) (and-mask (w / 2 ^ k) 1)
 pub singleton-shifted : (n k : ℕ) → k < n → 1 * 2 ^ k % 2 ^ n ≡ singleton k
 unfolding singleton
 singleton-shifted n k h = ap (λ (x : ℕ). x % 2 ^ n) (one-mul (2 ^ k)) ∙ mod-eq-of-lt (pow-lt h)
+
+-- `w << j`, before the bits past the width are lost: what was bit k is bit j + k
+pub bit-left : (w j k : ℕ) → bit (w * 2 ^ j) (j + k) ≡ bit w k
+bit-left w j k = sym (bit-shift (w * 2 ^ j) j k) ∙ ap (λ (x : ℕ). bit x k) (shl-shr w j)
+
+pub bit-left-low : (w j k : ℕ) → k < j → bit (w * 2 ^ j) k ≡ false
+bit-left-low w zero k h = absurd (omega arith)
+bit-left-low w (suc j) zero h = bit-low (w * 2 ^ suc j) ∙ ap (λ (x : ℕ). eqb x 1) (shifted-even w j)
+bit-left-low w (suc j) (suc k) h =
+    sym (bit-half (w * 2 ^ suc j) k) ∙ ap (λ (x : ℕ). bit x k) (shifted-half w j) ∙ bit-left-low w j k (omega arith)
+
+-- the bits below the width are kept
+pub bit-kept : (n w k : ℕ) → k < n → bit (w % 2 ^ n) k ≡ bit w k
+unfolding intersection
+bit-kept n w k h =
+    let ones : 2 ^ n - 1 ≡ 2 ^ n - 1 - 0 = omega arith in
+    ap (λ (x : ℕ). bit x k) (sym (and-mask w n)) ∙ bit-intersection w (2 ^ n - 1) k
+    ∙ rw (ones, bit-complement n 0 k (pow-pos n) h, bit-zero k) (and-true (bit w k))

@@ -1,5 +1,5 @@
--- `limits::within_limits` meets its contract: a board whose jobs or tally are too many is not within its limits, and
--- of any other the rows and the arcs decide. Assumes nothing.
+-- `limits::within_limits` meets its contract: a board whose jobs or tally are too many is not within its limits, and of any
+-- other the places and the agreement of the arcs decide. Assumes nothing.
 use mathlib.Core.Path.{_≡_}
 use mathlib.Core.Bool.{Bool}
 use mathlib.Core.Logic.{⊎-elim}
@@ -10,7 +10,8 @@ use Rattle.board.specs.Paper.Limits.{Shape}
 use Rattle.board.specs.Tests.Limits.{withinLimits}
 use Rattle.board.specs.Tests.Decides.{Decides, failed, second-asked, first-failed, same-decision}
 use Rattle.board.specs.Tests.LimitsDecided.{decides-limits}
-use Rattle.limits.specs.Limits.{Rows, Arcs, limits-tested}
+use Rattle.limits.specs.Agreement.{Agree}
+use Rattle.limits.specs.Limits.{Held, limits-tested}
 use Rattle.limits.proofs.within_limits.Statement.{statement}
 use Rattle.limits.proofs.within_limits.Tie as tie
 
@@ -20,18 +21,18 @@ returns c =
     (failed λ w. ⊎-elim (λ x. omega (arith, w .limits .jobs)) (λ x. omega (arith, w .tally, ltb-true)) (c .if1 .came))
     (decides-limits _)
 
-rows-hold-requires : tie.Need-rows-hold-requires
-rows-hold-requires c κs = search needs
+places-hold-requires : tie.Need-places-hold-requires
+places-hold-requires c κs = search needs
 
-arcs-hold-requires : tie.Need-arcs-hold-requires
-arcs-hold-requires c κs = search needs
+agree-requires : tie.Need-agree-requires
+agree-requires c κs = search needs
 
--- where the numbers of the board are in range, the rows and the arcs are left to test
-tested : (c : tie.After-rows-hold) {t : Bool}
-    → let b = c .before .before .before .before .before .args .b in
-    Decides t (Rows b × Arcs b) → t ≡ withinLimits b
+-- where the numbers of the board are in range, the places and the agreement are left to test
+tested : (c : tie.After-b) {t : Bool}
+    → let b = c .before .before .before .args .t1 in
+    Decides t (Held b × Agree (b .after) (b .before)) → t ≡ withinLimits b
 tested c d =
-    let b = c .before .before .before .before .before .args .b in
+    let b = c .before .before .before .args .t1 in
     let shape : Shape b =
     record {
       lengths = search needs;
@@ -45,12 +46,16 @@ tested c d =
 
 returns-2 : tie.Need-returns-2
 returns-2 c =
-    tested (c .before .before)
-    (second-asked (c .before .if3 .taken) (c .before .before .rows-hold .ensures) (c .arcs-hold .ensures))
+    let places = c .before .before .before .before .before in
+    tested (places .before .before .before .before .before .before .before)
+    (second-asked (c .before .before .before .before .if3 .taken) (places .places-hold .ensures) (c .agree .ensures))
 
 returns-3 : tie.Need-returns-3
-returns-3 c = tested (c .before) (first-failed (c .if3 .left) (c .before .rows-hold .ensures))
+returns-3 c =
+    let places = c .before in
+    tested (places .before .before .before .before .before .before .before)
+    (first-failed (c .if3 .left) (places .places-hold .ensures))
 
 pub within-limits-spec : {M : Type 1} → statement M
 within-limits-spec =
-    tie.close (tie.spec returns rows-hold-requires arcs-hold-requires returns-2 returns-3)
+    tie.close (tie.spec returns places-hold-requires agree-requires returns-2 returns-3)

@@ -1,0 +1,10 @@
+-- `limits::agreement::differences` meets its contract, by the law of the two words. Assumes nothing.
+use Rattle.limits.specs.Agreement.{decides-same}
+use Rattle.limits.proofs.agreement.differences.Statement.{statement}
+use Rattle.limits.proofs.agreement.differences.Tie as tie
+
+returns : tie.Need-returns
+returns c = decides-same _ _ _ (c .fits .a .fits) (c .fits .b .fits)
+
+pub differences-spec : {M : Type 1} → statement M
+differences-spec = tie.close (tie.spec returns)

@@ -1,0 +1,122 @@
+-- `limits::places_hold` meets its contract. The loop's invariant: the places below k hold. Assumes nothing.
+use Prim.Native.Nat.{ℕ, _≤_, _<_, _-_}
+use native.Mathlib.Omega.{arith}
+use lib.IntN.{pos}
+use lib.ListN.{getD}
+use denote.Ref.{now}
+use mir.Val.{SFits}
+use mir.Syntax.{w32}
+use mir.ValLaws.{toZ-ofZ}
+use borrow.Author.Tests.{not-true, not-false}
+use borrow.Author.Count.{below-more}
+use borrow.Author.Needs.{needs}
+use Rattle.minutes.specs.Bools.{refuted}
+use Rattle.board.specs.Paper.Limits.{jobLimit}
+use Rattle.board.specs.Tests.Decides.{Decides, passed, failed}
+use Rattle.limits.specs.Limits.{Place}
+use Rattle.limits.proofs.places_hold.Statement.{statement}
+use Rattle.limits.proofs.places_hold.Tie as tie
+
+abbrev Inv-loop : tie.InvT-loop
+Inv-loop jobs marks lengths earliest latest after before k₀ k =
+    (k ≤ jobLimit) × ((j : ℕ) → j < k → Place jobs marks lengths earliest latest after before j)
+
+abbrev μ-loop : tie.MeasureT-loop
+μ-loop jobs marks lengths earliest latest after before k₀ k = jobLimit - k
+
+loop-holds : tie.Need-loop-holds Inv-loop μ-loop
+loop-holds c = (search needs, λ j l. absurd (omega arith))
+
+element-copy-out-place-holds : tie.Need-element-copy-out-place-holds Inv-loop μ-loop
+element-copy-out-place-holds c = search needs
+
+mul-place-holds : tie.Need-mul-place-holds Inv-loop μ-loop
+mul-place-holds c = search needs
+
+element-copy-out-place-holds-2 : tie.Need-element-copy-out-place-holds-2 Inv-loop μ-loop
+element-copy-out-place-holds-2 c = search needs
+
+mul-place-holds-2 : tie.Need-mul-place-holds-2 Inv-loop μ-loop
+mul-place-holds-2 c = search needs
+
+element-copy-out-place-holds-3 : tie.Need-element-copy-out-place-holds-3 Inv-loop μ-loop
+element-copy-out-place-holds-3 c = search needs
+
+mul-place-holds-3 : tie.Need-mul-place-holds-3 Inv-loop μ-loop
+mul-place-holds-3 c = search needs
+
+element-copy-out-place-holds-4 : tie.Need-element-copy-out-place-holds-4 Inv-loop μ-loop
+element-copy-out-place-holds-4 c = search needs
+
+mul-place-holds-4 : tie.Need-mul-place-holds-4 Inv-loop μ-loop
+mul-place-holds-4 c = search needs
+
+element-copy-out-place-holds-5 : tie.Need-element-copy-out-place-holds-5 Inv-loop μ-loop
+element-copy-out-place-holds-5 c = search needs
+
+mul-place-holds-5 : tie.Need-mul-place-holds-5 Inv-loop μ-loop
+mul-place-holds-5 c = search needs
+
+element-copy-out-place-holds-6 : tie.Need-element-copy-out-place-holds-6 Inv-loop μ-loop
+element-copy-out-place-holds-6 c = search needs
+
+place-holds-requires : tie.Need-place-holds-requires Inv-loop μ-loop
+place-holds-requires c κs = search needs
+
+-- what the test of place k decides
+tested : (c : tie.After-place-holds Inv-loop μ-loop)
+    → let a = c .before .before .before .before .before .before .before .before .before .args in
+    let k = c .before .before .before .before .before .before .before .before .loop .k in
+    Decides (c .place-holds .result)
+    (Place (a .jobs) (now (a .marks)) (now (a .lengths)) (now (a .earliest)) (now (a .latest)) (now (a .after)) (now (a .before)) k)
+tested c =
+    let a = c .before .before .before .before .before .before .before .before .before .args in
+    let k = c .before .before .before .before .before .before .before .before .loop .k in
+    let l : SFits w32 (getD (now (a .lengths)) k (pos 0)) = search needs in
+    let e : SFits w32 (getD (now (a .earliest)) k (pos 0)) = search needs in
+    let d : SFits w32 (getD (now (a .latest)) k (pos 0)) = search needs in
+    simp (toZ-ofZ, l, e, d) at (c .place-holds .ensures)
+
+returns : tie.Need-returns Inv-loop μ-loop
+returns c =
+    let below = c .before .before .before .before .before .before .before .before .loop-test .taken in
+    failed λ h. refuted (not-true _ (c .if1 .taken)) (tested (c .before) .show (h _ below))
+
+add-k : tie.Need-add-k Inv-loop μ-loop
+add-k c = search needs
+
+loop-less : tie.Need-loop-less Inv-loop μ-loop
+loop-less c = search needs
+
+loop-again : tie.Need-loop-again Inv-loop μ-loop
+loop-again c =
+    let l = c .before .before .before .before .before .before .before .before .before .loop in
+    (search needs, below-more _ _ (l .inv .1) (tested (c .before) .yes (not-false _ (c .if1 .left))))
+
+returns-2 : tie.Need-returns-2 Inv-loop μ-loop
+returns-2 c = passed λ j l. c .before .loop .inv .1 j (omega arith)
+
+pub places-hold-spec : {M : Type 1} → statement M
+places-hold-spec =
+    tie.close
+    (tie.spec
+    Inv-loop
+    μ-loop
+    loop-holds
+    element-copy-out-place-holds
+    mul-place-holds
+    element-copy-out-place-holds-2
+    mul-place-holds-2
+    element-copy-out-place-holds-3
+    mul-place-holds-3
+    element-copy-out-place-holds-4
+    mul-place-holds-4
+    element-copy-out-place-holds-5
+    mul-place-holds-5
+    element-copy-out-place-holds-6
+    place-holds-requires
+    returns
+    add-k
+    loop-less
+    loop-again
+    returns-2)
