@@ -2,7 +2,7 @@
 -- the words before them. Together these are the limits.
 use mathlib.Core.Path.{_≡_, refl, sym, ap, _∙_}
 use mathlib.Core.Logic.{_≢_}
-use mathlib.Core.Bool.{Bool, true, false, not, _&&_, _||_}
+use mathlib.Core.Bool.{Bool, true, not, _&&_}
 use mathlib.Core.List.{List}
 use Prim.Native.Nat.{ℕ, _<_, _≤_, _^_}
 use native.Mathlib.Decide.{decLt}
@@ -19,7 +19,7 @@ use Rattle.board.specs.declared.Board.{Board}
 use Rattle.board.specs.Paper.View.{Row, view, rowOf, arcOf, arcIntoOf, Live, Arc}
 use Rattle.board.specs.Paper.Limits.{jobLimit, tallyLimit, zeroRow, RowLimits, Shape, Within}
 use Rattle.board.specs.Tests.Limits.{between, isZero, isLength, isTime, isZeroRow, fits, withinLimits}
-use Rattle.board.specs.Tests.Decides.{Decides, restated, same-decision, holds, negated, eq}
+use Rattle.board.specs.Tests.Decides.{Decides, restated, same-decision, holds, negated, _and_, eq}
 use Rattle.board.specs.Tests.LimitsDecided.{decides-between, decides-zero, decides-fits, decides-zeroRow, decides-limits, past, past-row}
 use Rattle.limits.specs.Agreement.{Agree}
 
@@ -44,14 +44,13 @@ module _ (n k m : ℕ) (l e d : ℤ) where
   unfolding isZeroRow
   zeros = rw (eq-eqb m m refl) at (decides-zeroRow m (row m l e d))
 
-  -- a place without a job, with an invalid job, and with a live one
-  pub row-blank : n ≤ k → m ≡ 0 → Decides (isZero l && isZero e && isZero d) (RowLimits n k (row m l e d))
+  row-blank : n ≤ k → m ≡ 0 → Decides (isZero l && isZero e && isZero d) (RowLimits n k (row m l e d))
   row-blank p z =
       restated zeros
       (λ h. blank-limits n k (row m l e d) p (h ∙ ap zeroRow z))
       (λ h. h .blank p ∙ ap zeroRow (sym z))
 
-  pub row-invalid : k < n → m ≡ 2 → Decides (isZero l && isZero e && isZero d) (RowLimits n k (row m l e d))
+  row-invalid : k < n → m ≡ 2 → Decides (isZero l && isZero e && isZero d) (RowLimits n k (row m l e d))
   row-invalid p z =
       restated zeros
       (λ h.
@@ -63,7 +62,7 @@ module _ (n k m : ℕ) (l e d : ℤ) where
       })
       (λ h. h .invalid p z ∙ ap zeroRow (sym z))
 
-  pub row-live : k < n → m < 2 → Decides (isLength l && isTime e && isTime d) (RowLimits n k (row m l e d))
+  row-live : k < n → m < 2 → Decides (isLength l && isTime e && isTime d) (RowLimits n k (row m l e d))
   unfolding fits
   row-live p z =
       restated (decides-fits (row m l e d))
@@ -93,7 +92,7 @@ member-below n w x l e = go (decLt x n)
     go (no h) = absurd (refuted (bit-high n w x l (omega arith)) e)
 
 module _ (n k m after before : ℕ) where
-  pub decides-none : (k < n → m ≢ 2 → ⊥) → Decides (eqb (union after before) 0) (Joins n k m after before)
+  decides-none : (k < n → m ≢ 2 → ⊥) → Decides (eqb (union after before) 0) (Joins n k m after before)
   unfolding union
   decides-none dead = restated (eq (union after before) 0) none λ (a, b).
       rw (empty after (λ x e. let (l, v, w, s) = a x e in dead l v), empty before (λ x e. let (l, v, w) = b x e in dead l v))
@@ -107,22 +106,43 @@ module _ (n k m after before : ℕ) where
       empty : (word : ℕ) → ((x : ℕ) → bit word x ≡ true → ⊥) → word ≡ 0
       empty word h = bit-ext word 0 λ x. is-false (bit word x) (h x) ∙ sym (bit-zero x)
 
-  pub decides-own : k < n → m ≢ 2 → after < 2 ^ width → before < 2 ^ width → Decides (not (bit after k)) (Joins n k m after before)
+  decides-own : k < n → m ≢ 2 → after < 2 ^ width → before < 2 ^ width → Decides (not (bit after k)) (Joins n k m after before)
   decides-own l v fa fb =
       restated (negated (holds (bit after k)))
       (λ own. (λ x e. (l, v, member-below width after x fa e, λ s. own (ap (bit after) s ∙ e)), λ x e. (l, v, member-below width before x fb e)))
       (λ (a, b) e. a k e .3 refl)
 
+-- ---- places
+
+-- the tests of a place without a live job, and with one
+abbrev pub isZeroPlace : ℤ → ℤ → ℤ → ℕ → ℕ → Bool
+isZeroPlace l e d after before = (isZero l && isZero e && isZero d) && eqb (union after before) 0
+
+abbrev pub isLivePlace : ℕ → ℤ → ℤ → ℤ → ℕ → Bool
+isLivePlace k l e d after = (isLength l && isTime e && isTime d) && not (bit after k)
+
+abbrev pub Place : ℕ → ℕ → Row → ℕ → ℕ → Type 0
+Place n k r after before = RowLimits n k r × Joins n k (r .mark) after before
+
+-- a place without a job, with an invalid job, and with a live one
+module _ (n k m : ℕ) (l e d : ℤ) (after before : ℕ) where
+  pub place-blank : n ≤ k → m ≡ 0 → Decides (isZeroPlace l e d after before) (Place n k (row m l e d) after before)
+  place-blank p z = row-blank n k m l e d p z and decides-none n k m after before (λ x v. omega arith)
+
+  pub place-invalid : k < n → m ≡ 2 → Decides (isZeroPlace l e d after before) (Place n k (row m l e d) after before)
+  place-invalid p z = row-invalid n k m l e d p z and decides-none n k m after before (λ x v. v z)
+
+  pub place-live : after < 2 ^ width → before < 2 ^ width → k < n → m < 2
+      → Decides (isLivePlace k l e d after) (Place n k (row m l e d) after before)
+  place-live fa fb p z = row-live n k m l e d p z and decides-own n k m after before p (λ x. omega arith) fa fb
+
 -- what place k holds, and what every place holds
-abbrev pub Place : ℕ → List ℕ → List ℤ → List ℤ → List ℤ → List ℕ → List ℕ → ℕ → Type 0
-Place n marks lengths earliest latest after before k =
-    let m = getD marks k 0 in
-    RowLimits n k (row m (getD lengths k (pos 0)) (getD earliest k (pos 0)) (getD latest k (pos 0)))
-    × Joins n k m (getD after k 0) (getD before k 0)
+abbrev pub PlaceAt : ℕ → List ℕ → List ℤ → List ℤ → List ℤ → List ℕ → List ℕ → ℕ → Type 0
+PlaceAt n marks lengths earliest latest after before k =
+    Place n k (row (getD marks k 0) (getD lengths k (pos 0)) (getD earliest k (pos 0)) (getD latest k (pos 0))) (getD after k 0) (getD before k 0)
 
 abbrev pub Places : ℕ → List ℕ → List ℤ → List ℤ → List ℤ → List ℕ → List ℕ → Type 0
-Places n marks lengths earliest latest after before =
-    (k : ℕ) → k < jobLimit → Place n marks lengths earliest latest after before k
+Places n marks lengths earliest latest after before = (k : ℕ) → k < jobLimit → PlaceAt n marks lengths earliest latest after before k
 
 -- ---- the board
 

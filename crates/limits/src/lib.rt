@@ -7,7 +7,7 @@ use board::range::is_time;
 ghost use mathlib.Core.Path.{_≡_};
 ghost use mathlib.Core.Bool.{_&&_};
 ghost use Prim.Native.Nat.{_<_};
-ghost use Rattle.board.specs.Paper.Limits.{jobLimit, RowLimits};
+ghost use Rattle.board.specs.Paper.Limits.{jobLimit};
 ghost use Rattle.board.specs.Tests.Decides.{Decides};
 ghost use Rattle.board.specs.Tests.Limits as limits;
 ghost use Rattle.limits.specs.Limits as parts;
@@ -36,30 +36,22 @@ fn fits(length: i32, earliest: i32, latest: i32) -> bool
     is_length(length) && is_time(earliest) && is_time(latest)
 }
 
-// What place k holds: nothing where there is no job, and else an invalid job or a live one.
-fn row_holds(jobs: usize, k: usize, mark: u8, length: i32, earliest: i32, latest: i32) -> bool
-    ensures { λ r. ⌜ Decides r (RowLimits jobs k (parts.row mark length earliest latest)) ⌝ }
+// A place without a live job holds 0 but for its mark, and no arcs.
+fn is_zero_place(length: i32, earliest: i32, latest: i32, after: u64, before: u64) -> bool
+    ensures { λ r. ⌜ r ≡ parts.isZeroPlace length earliest latest after before ⌝ }
 {
-    if jobs <= k {
-        return mark == 0 && is_zero_row(length, earliest, latest);
-    }
-    if mark == Board::INVALID {
-        return is_zero_row(length, earliest, latest);
-    }
-    mark < Board::INVALID && fits(length, earliest, latest)
+    is_zero_row(length, earliest, latest) && words::union(after, before) == 0
 }
 
-// The words of place k: a job with an arc is live, and has none to itself.
-fn joins(jobs: usize, k: usize, mark: u8, after: u64, before: u64) -> bool
+// A live job's row fits, and no arc leads from it to itself.
+fn is_live_place(k: usize, length: i32, earliest: i32, latest: i32, after: u64) -> bool
     requires { ⌜ k < jobLimit ⌝ }
-    ensures { λ r. ⌜ Decides r (parts.Joins jobs k mark after before) ⌝ }
+    ensures { λ r. ⌜ r ≡ parts.isLivePlace k length earliest latest after ⌝ }
 {
-    if jobs <= k || mark == Board::INVALID {
-        return words::union(after, before) == 0;
-    }
-    !words::has(after, k)
+    fits(length, earliest, latest) && !words::has(after, k)
 }
 
+// What place k holds: nothing where there is no job, and else an invalid job or a live one.
 fn place_holds(
     jobs: usize,
     k: usize,
@@ -71,9 +63,15 @@ fn place_holds(
     before: u64,
 ) -> bool
     requires { ⌜ k < jobLimit ⌝ }
-    ensures { λ r. ⌜ Decides r (RowLimits jobs k (parts.row mark length earliest latest) × parts.Joins jobs k mark after before) ⌝ }
+    ensures { λ r. ⌜ Decides r (parts.Place jobs k (parts.row mark length earliest latest) after before) ⌝ }
 {
-    row_holds(jobs, k, mark, length, earliest, latest) && joins(jobs, k, mark, after, before)
+    if jobs <= k {
+        return mark == 0 && is_zero_place(length, earliest, latest, after, before);
+    }
+    if mark == Board::INVALID {
+        return is_zero_place(length, earliest, latest, after, before);
+    }
+    mark < Board::INVALID && is_live_place(k, length, earliest, latest, after)
 }
 
 fn places_hold<'a>(

@@ -1,30 +1,63 @@
--- `limits::place_holds` meets its contract: the words are tested where the row holds. Assumes nothing.
+-- `limits::place_holds` meets its contract: each way back is one of the laws of a place without a job, with an
+-- invalid job and with a live one, or a mark that none of them has. Assumes nothing.
+use mathlib.Core.Path.{ap}
+use native.Mathlib.Omega.{arith}
 use mir.ValLaws.{toZ-ofZ}
 use borrow.Author.Needs.{needs}
-use Rattle.board.specs.Paper.Limits.{RowLimits}
-use Rattle.board.specs.Tests.Decides.{Decides, second-asked, first-failed}
-use Rattle.limits.specs.Limits.{row}
+use Rattle.board.specs.Paper.View.{Row}
+use Rattle.board.specs.Tests.Decides.{restated, eq, lt}
+use Rattle.limits.specs.Limits.{place-blank, place-invalid, place-live}
 use Rattle.limits.proofs.place_holds.Statement.{statement}
 use Rattle.limits.proofs.place_holds.Tie as tie
 
-row-holds-requires : tie.Need-row-holds-requires
-row-holds-requires c κs = search needs
-
-joins-requires : tie.Need-joins-requires
-joins-requires c κs = search needs
-
-row-tested : (c : tie.After-row-holds)
-    → let a = c .before .args in
-    Decides (c .row-holds .result) (RowLimits (a .jobs) (a .k) (row (a .mark) (a .length) (a .earliest) (a .latest)))
-row-tested c = let f = c .before .fits in simp (toZ-ofZ, f .length, f .earliest, f .latest) at (c .row-holds .ensures)
+is-zero-place-requires : tie.Need-is-zero-place-requires
+is-zero-place-requires c κs = search needs
 
 returns : tie.Need-returns
 returns c =
-    let at = c .before .before in
-    second-asked (c .before .if1 .taken) (row-tested at) (c .joins .ensures)
+    let s = c .before .before .before in
+    rw (simp (toZ-ofZ, s .fits .length, s .fits .earliest, s .fits .latest) at (c .is-zero-place .ensures))
+    (place-blank _ _ _ _ _ _ _ _ (c .before .before .if1 .taken) (c .before .if2 .taken))
 
 returns-2 : tie.Need-returns-2
-returns-2 c = first-failed (c .if1 .left) (row-tested (c .before))
+returns-2 c =
+    restated (eq (c .before .before .args .mark) 0)
+    (λ e. absurd (c .if2 .left e))
+    (λ h. ap (λ (r : Row). r .mark) (h .0 .blank (c .before .if1 .taken)))
+
+is-zero-place-requires-2 : tie.Need-is-zero-place-requires-2
+is-zero-place-requires-2 c κs = search needs
+
+returns-3 : tie.Need-returns-3
+returns-3 c =
+    let s = c .before .before .before in
+    rw (simp (toZ-ofZ, s .fits .length, s .fits .earliest, s .fits .latest) at (c .is-zero-place2 .ensures))
+    (place-invalid _ _ _ _ _ _ _ _ (c .before .before .if1 .left) (c .before .if3 .taken))
+
+is-live-place-requires : tie.Need-is-live-place-requires
+is-live-place-requires c κs = search needs
+
+returns-4 : tie.Need-returns-4
+returns-4 c =
+    let s = c .before .before .before .before in
+    rw (simp (toZ-ofZ, s .fits .length, s .fits .earliest, s .fits .latest) at (c .is-live-place .ensures))
+    (place-live _ _ _ _ _ _ _ _ (s .fits .after .fits) (s .fits .before .fits) (c .before .before .before .if1 .left) (c .before .if4 .taken))
+
+returns-5 : tie.Need-returns-5
+returns-5 c =
+    restated (lt (c .before .before .before .args .mark) 2)
+    (λ e. absurd (omega (arith, c .if4 .left)))
+    (λ h. omega (arith, h .0 .mark, c .before .if3 .left))
 
 pub place-holds-spec : {M : Type 1} → statement M
-place-holds-spec = tie.close (tie.spec row-holds-requires joins-requires returns returns-2)
+place-holds-spec =
+    tie.close
+    (tie.spec
+    is-zero-place-requires
+    returns
+    returns-2
+    is-zero-place-requires-2
+    returns-3
+    is-live-place-requires
+    returns-4
+    returns-5)

@@ -13,13 +13,13 @@ use borrow.Author.Needs.{needs}
 use Rattle.minutes.specs.Bools.{refuted}
 use Rattle.board.specs.Paper.Limits.{jobLimit}
 use Rattle.board.specs.Tests.Decides.{Decides, passed, failed}
-use Rattle.limits.specs.Limits.{Place}
+use Rattle.limits.specs.Limits.{PlaceAt}
 use Rattle.limits.proofs.places_hold.Statement.{statement}
 use Rattle.limits.proofs.places_hold.Tie as tie
 
 abbrev Inv-loop : tie.InvT-loop
 Inv-loop jobs marks lengths earliest latest after before k₀ k =
-    (k ≤ jobLimit) × ((j : ℕ) → j < k → Place jobs marks lengths earliest latest after before j)
+    (k ≤ jobLimit) × ((j : ℕ) → j < k → PlaceAt jobs marks lengths earliest latest after before j)
 
 abbrev μ-loop : tie.MeasureT-loop
 μ-loop jobs marks lengths earliest latest after before k₀ k = jobLimit - k
@@ -68,7 +68,7 @@ tested : (c : tie.After-place-holds Inv-loop μ-loop)
     → let a = c .before .before .before .before .before .before .before .before .before .args in
     let k = c .before .before .before .before .before .before .before .before .loop .k in
     Decides (c .place-holds .result)
-    (Place (a .jobs) (now (a .marks)) (now (a .lengths)) (now (a .earliest)) (now (a .latest)) (now (a .after)) (now (a .before)) k)
+    (PlaceAt (a .jobs) (now (a .marks)) (now (a .lengths)) (now (a .earliest)) (now (a .latest)) (now (a .after)) (now (a .before)) k)
 tested c =
     let a = c .before .before .before .before .before .before .before .before .before .args in
     let k = c .before .before .before .before .before .before .before .before .loop .k in
