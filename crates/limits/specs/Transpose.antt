@@ -1,9 +1,8 @@
 -- The transpose of a matrix of bits, 64 words of 64 bits, by rounds: from where one round takes each bit, over any width of
 -- blocks, and that six of them, the width halved each time, take each bit from its mirror image.
-use mathlib.Core.Path.{_≡_, refl, sym, ap, _∙_, subst⁻¹}
+use mathlib.Core.Path.{_≡_, refl, sym, ap, _∙_}
 use mathlib.Core.Bool.{Bool, true, false, cond, not, _&&_, xor}
 use mathlib.Core.List.{List}
-use mathlib.Core.Logic.{_≢_}
 use Prim.Native.Nat.{ℕ, _+_, _-_, _*_, _/_, _%_, _^_, _≤_, _<_}
 use native.Mathlib.Decide.{decLt, ℕ-discrete}
 use native.Mathlib.Omega.{arith}
@@ -135,30 +134,26 @@ Taken shift mask from to i =
 abbrev pub Exchanged : ℕ → ℕ → List ℕ → List ℕ → Type 0
 Exchanged shift mask from to = (i : ℕ) → i < width → Taken shift mask from to i
 
+-- a test decides from where a bit is taken
+chosen : (from : List ℕ) (t : Bool) (i j x y : ℕ)
+    → cond t (bit (getD from i 0) x) (bit (getD from j 0) y) ≡ bit (getD from (cond t i j) 0) (cond t x y)
+chosen from true i j x y = refl
+chosen from false i j x y = refl
+
 module _ (shift mask : ℕ) (from : List ℕ) (i : ℕ) where
   lower-taken : (w : ℕ) → Lower shift mask (getD from i 0) (getD from (i + 32) 0) w
       → (k : ℕ) → k < width → bit w k ≡ bit (getD from (wordOf mask (2 * i) k) 0) (bitOf shift mask (2 * i) k)
   unfolding wordOf bitOf
   lower-taken w h k l =
       let half : 2 * i / 2 ≡ i = omega arith in
-      h k l ∙ rw (half, eq-eqb (2 * i % 2) 0 (omega arith)) (go (bit mask k))
-    where
-      go : (t : Bool) → cond t (bit (getD from i 0) k) (bit (getD from (i + 32) 0) (k - shift))
-          ≡ bit (getD from (cond t i (i + 32)) 0) (cond t k (k - shift))
-      go true = refl
-      go false = refl
+      h k l ∙ rw (half, eq-eqb (2 * i % 2) 0 (omega arith)) (chosen from (bit mask k) i (i + 32) k (k - shift))
 
   upper-taken : (w : ℕ) → Upper shift mask (getD from i 0) (getD from (i + 32) 0) w
       → (k : ℕ) → k < width → bit w k ≡ bit (getD from (wordOf mask (2 * i + 1) k) 0) (bitOf shift mask (2 * i + 1) k)
   unfolding wordOf bitOf
   upper-taken w h k l =
       let half : (2 * i + 1) / 2 ≡ i = omega arith in
-      h k l ∙ rw (half, ne-eqb ((2 * i + 1) % 2) 0 (λ e. omega arith)) (go (bit mask k))
-    where
-      go : (t : Bool) → cond t (bit (getD from i 0) (shift + k)) (bit (getD from (i + 32) 0) k)
-          ≡ bit (getD from (cond t i (i + 32)) 0) (cond t (shift + k) k)
-      go true = refl
-      go false = refl
+      h k l ∙ rw (half, ne-eqb ((2 * i + 1) % 2) 0 (λ e. omega arith)) (chosen from (bit mask k) i (i + 32) (shift + k) k)
 
   -- two words more
   pub taken-more : (to : List ℕ) (w v : ℕ) → i < 32 → length to ≡ width
@@ -186,7 +181,7 @@ module _ (shift mask : ℕ) (from : List ℕ) (i : ℕ) where
 
 -- ---- six rounds
 
--- from where each place, a word and a bit in it, is taken by the round that exchanges blocks of 2 ^ s
+-- the place, a word and a bit in it, from where the round that exchanges blocks of 2 ^ s takes what is at p
 unfoldable source : ℕ → ℕ × ℕ → ℕ × ℕ
 source s p = (wordOf (maskOf (2 ^ s)) (p .0) (p .1), bitOf (2 ^ s) (maskOf (2 ^ s)) (p .0) (p .1))
 
@@ -216,15 +211,15 @@ abbrev at : List ℕ → ℕ × ℕ → Bool
 at words p = bit (getD words (p .0) 0) (p .1)
 
 -- one round back
-back : (from to : List ℕ) (s : ℕ) → s < 6 → Exchanged (2 ^ s) (maskOf (2 ^ s)) from to
+back : (from to : List ℕ) (s : ℕ) → Exchanged (2 ^ s) (maskOf (2 ^ s)) from to
     → (p : ℕ × ℕ) → Inside p → at to p ≡ at from (source s p)
 unfolding source
-back from to s l h (i, k) (li, lk) = h i li k lk
+back from to s h (i, k) (li, lk) = h i li k lk
 
 abbrev origin : ℕ × ℕ → ℕ × ℕ
 origin p = source 5 (source 4 (source 3 (source 2 (source 1 (source 0 p)))))
 
--- looked up for each of the 4096 bits
+-- computed for each of the 4096 bits
 mirrored : (i : ℕ) → i < width → (k : ℕ) → k < width → (origin (i, k) .0 ≡ k) × (origin (i, k) .1 ≡ i)
 unfolding bit all wordOf bitOf source
 mirrored = every width (λ i. every width λ k. eq (origin (i, k) .0) k and eq (origin (i, k) .1) i) .yes refl
@@ -242,11 +237,11 @@ transposed a b c d e f g r5 r4 r3 r2 r1 r0 i k li lk =
     let h4 = source-inside 3 (omega arith) _ h3 in
     let h5 = source-inside 4 (omega arith) _ h4 in
     let (word, place) = mirrored i li k lk in
-    back f g 0 (omega arith) r0 (i, k) (li, lk)
-    ∙ back e f 1 (omega arith) r1 _ h1
-    ∙ back d e 2 (omega arith) r2 _ h2
-    ∙ back c d 3 (omega arith) r3 _ h3
-    ∙ back b c 4 (omega arith) r4 _ h4
-    ∙ back a b 5 (omega arith) r5 _ h5
+    back f g 0 r0 (i, k) (li, lk)
+    ∙ back e f 1 r1 _ h1
+    ∙ back d e 2 r2 _ h2
+    ∙ back c d 3 r3 _ h3
+    ∙ back b c 4 r4 _ h4
+    ∙ back a b 5 r5 _ h5
     ∙ ap (λ (x : ℕ). bit (getD a x 0) (origin (i, k) .1)) word
     ∙ ap (bit (getD a k 0)) place

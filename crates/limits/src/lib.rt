@@ -12,9 +12,9 @@ ghost use Rattle.board.specs.Tests.Decides.{Decides};
 ghost use Rattle.board.specs.Tests.Limits as limits;
 ghost use Rattle.limits.specs.Limits as parts;
 
-pub mod agreement;
+mod agreement;
 pub mod marked;
-pub mod transpose;
+mod transpose;
 
 fn is_zero(z: i32) -> bool
     ensures { λ r. ⌜ r ≡ limits.isZero z ⌝ }

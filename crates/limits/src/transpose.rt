@@ -4,7 +4,7 @@ ghost use Prim.Native.Nat.{_<_};
 ghost use Rattle.words.specs.Bit.{width};
 ghost use Rattle.limits.specs.Transpose.{Mask, Lower, Upper, Exchanged, Transposed};
 
-// The masked bits of the first word, and those of the second above them.
+// The masked bits of two words: those of the first in their places, those of the second shifted up between them.
 fn lower(low: u64, high: u64, shift: usize, mask: u64) -> u64
     requires { ⌜ Mask shift mask ⌝ }
     ensures { λ r. ⌜ Lower shift mask low high r ⌝ }
@@ -12,7 +12,7 @@ fn lower(low: u64, high: u64, shift: usize, mask: u64) -> u64
     low ^ ((mask & ((low >> shift) ^ high)) << shift)
 }
 
-// The other bits of the second word, and those of the first below them.
+// The other bits of the two: those of the second in their places, those of the first shifted down between them.
 fn upper(low: u64, high: u64, shift: usize, mask: u64) -> u64
     requires { ⌜ shift < width ⌝ }
     ensures { λ r. ⌜ Upper shift mask low high r ⌝ }
@@ -20,7 +20,7 @@ fn upper(low: u64, high: u64, shift: usize, mask: u64) -> u64
     high ^ (mask & (high ^ (low >> shift)))
 }
 
-// One round: words i and i + 32 become words 2 i and 2 i + 1, with the masked bits of the second exchanged for the others of the first.
+// One round: words i and i + 32 become words 2 i and 2 i + 1, which hold the masked bits of both and the other bits of both.
 fn exchange(from: &[u64; Board::JOBS], shift: usize, mask: u64) -> [u64; Board::JOBS]
     requires { ⌜ Mask shift mask ⌝ }
     ensures { λ r. ⌜ Exchanged shift mask (now (from .entry)) r ⌝ }
@@ -35,7 +35,8 @@ fn exchange(from: &[u64; Board::JOBS], shift: usize, mask: u64) -> [u64; Board::
     to
 }
 
-// Each round takes one bit of the number of a word for one bit of the number of a place in it, the highest first.
+// A word's number and a bit's number in it have six binary digits each. A round exchanges a digit of the one for a digit of the
+// other, the highest first.
 pub fn transpose(words: &[u64; Board::JOBS]) -> [u64; Board::JOBS]
     ensures { λ r. ⌜ Transposed (now (words .entry)) r ⌝ }
 {
