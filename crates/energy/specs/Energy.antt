@@ -1,14 +1,14 @@
 -- The sums that R4 and R5 compare a bound with, over the numbers that the code reads. R5 is R4 with the signs turned: a time
 -- D counts as the bound -D, so a greatest D is a least bound and a difference is a sum.
 use mathlib.Core.Path.{_≡_}
-use mathlib.Core.Bool.{Bool, true}
+use mathlib.Core.Bool.{Bool, true, cond}
 use mathlib.Core.List.{List}
 use mathlib.Core.Logic.{_≢_}
 use mathlib.Core.Option.{Option, none, some}
 use Prim.Native.Nat.{ℕ, _<_}
 use lib.IntN.{ℤ, pos, _+ℤ_}
 use lib.ListN.{getD}
-use lib.Signed.{_≤ℤ_, _<ℤ_}
+use lib.Signed.{ltZ, _≤ℤ_, _<ℤ_}
 use Rattle.words.specs.Bit.{bit, without}
 use Rattle.minutes.specs.Sum.{total}
 use Rattle.board.specs.Paper.View.{Side}
@@ -23,6 +23,10 @@ boundAt s times k = turned s (getD times k (pos 0))
 
 abbrev pub lengthAt : List ℤ → ℕ → ℤ
 lengthAt lengths k = getD lengths k (pos 0)
+
+-- the bound that the job at place k leaves to the jobs beyond it
+abbrev pub endAt : Side → List ℤ → List ℤ → ℕ → ℤ
+endAt s times lengths k = boundAt s times k +ℤ lengthAt lengths k
 
 -- every place holds a time
 pub record Times (times : List ℤ) : Type 0 where
@@ -70,10 +74,23 @@ pub record Sum (s : Side) (times lengths : List ℤ) (w : ℕ) (z : ℤ) : Type 
   pub least : (k : ℕ) → set k ≡ true → boundAt s times first ≤ℤ boundAt s times k
   pub is : z ≡ boundAt s times first +ℤ total jobLimit set (lengthAt lengths)
 
--- the greatest number that has the property P; none where no number has it
-abbrev pub Greatest : (ℤ → Type 0) → Option ℤ → Type 0
-Greatest P none = (z : ℤ) → P z → ⊥
-Greatest P (some z) = P z × ((y : ℤ) → P y → y ≤ℤ z)
+-- the greatest number that has the property P
+abbrev pub Greatest : (ℤ → Type 0) → ℤ → Type 0
+Greatest P z = P z × ((y : ℤ) → P y → y ≤ℤ z)
+
+-- the greatest number that has the property P, where it is above `low`; none where no such number is above it
+abbrev pub Exceeds : (ℤ → Type 0) → ℤ → Option ℤ → Type 0
+Exceeds P low none = (z : ℤ) → P z → z ≤ℤ low
+Exceeds P low (some z) = Greatest P z × (low <ℤ z)
+
+-- z, where it is above `low`
+abbrev pub over : ℤ → ℤ → Option ℤ
+over low z = cond (ltZ low z) (some z) none
+
+-- a bound above that of job j, to which a set of jobs of the word w pushes it
+abbrev pub Pushes : Side → List ℤ → List ℤ → ℕ → ℕ → Option ℤ → Type 0
+Pushes s times lengths w j none = Unit
+Pushes s times lengths w j (some z) = Sum s times lengths w z × (boundAt s times j <ℤ z)
 
 -- the bound that an answer stands for
 abbrev pub boundOf : Side → EnergyBound → Option ℤ

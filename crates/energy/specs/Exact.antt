@@ -7,7 +7,7 @@ use mathlib.Core.Option.{Option, none, some}
 use Prim.Native.Nat.{ℕ}
 use native.Mathlib.Omega.{arith}
 use lib.IntN.{ℤ, negℤ}
-use lib.Signed.{_≤ℤ_}
+use lib.Signed.{_≤ℤ_, _<ℤ_}
 use Rattle.words.specs.Bit.{bit}
 use Rattle.minutes.specs.Bools.{is-false}
 use Rattle.minutes.specs.Linear.{whole, plus, minus}
@@ -22,7 +22,7 @@ use Rattle.board.specs.Tests.Ranges.{ranges}
 use Rattle.energy.specs.declared.EnergyBound.{EnergyBound}
 use Rattle.energy.specs.declared.EnergyBound.the-variants.{Unbounded, At}
 use Rattle.energy.specs.SumBeyond.{SumBeyond}
-use Rattle.energy.specs.Energy.{boundAt, lengthAt, Times, Lengths, Sum, Greatest, boundOf}
+use Rattle.energy.specs.Energy.{boundAt, lengthAt, Times, Lengths, Sum, Exceeds, boundOf}
 
 -- ---- a board's numbers
 
@@ -50,9 +50,10 @@ energy-is b h S valid = total-more (b .jobs) jobLimit S (lengthAt (b .lengths)) 
 
 -- ---- R4 and R5 as one, with a side
 
-greatest-same : (P Q : ℤ → Type 0) → ((z : ℤ) → P z → Q z) → ((z : ℤ) → Q z → P z) → (o : Option ℤ) → Greatest P o → Greatest Q o
-greatest-same P Q f g none h = λ z q. h z (g z q)
-greatest-same P Q f g (some z) h = (f z (h .0), λ y q. h .1 y (g y q))
+exceeds-same : (P Q : ℤ → Type 0) → ((z : ℤ) → P z → Q z) → ((z : ℤ) → Q z → P z) → (low : ℤ) (o : Option ℤ)
+    → Exceeds P low o → Exceeds Q low o
+exceeds-same P Q f g low none h = λ z q. h z (g z q)
+exceeds-same P Q f g low (some z) ((p, most), over) = ((f z p, λ y q. most y (g y q)), over)
 
 module _ (b : Board) (h : Within b) (s : Side) (j w : ℕ) where
   pub sum-beyond : ((k : ℕ) → bit w k ≡ true → Valid (view b) k × Beyond (view b) s k j)
@@ -80,15 +81,15 @@ module _ (b : Board) (h : Within b) (s : Side) (j w : ℕ) (members : (k : ℕ) 
         is = cc (p .is, bound-is b s (p .first), energy-is b h (p .set) (λ k e. p .beyond k e .0));
       }
 
-  pub greatest-beyond : (o : Option ℤ) → Greatest (Sum s (timesOf b s) (b .lengths) w) o → Greatest (SumBeyond (view b) s j) o
-  greatest-beyond = greatest-same _ _ (sum-beyond b h s j w λ k e. members k .yes e) beyond-sum
+  pub exceeds-beyond : (low : ℤ) (o : Option ℤ) → Exceeds (Sum s (timesOf b s) (b .lengths) w) low o → Exceeds (SumBeyond (view b) s j) low o
+  exceeds-beyond = exceeds-same _ _ (sum-beyond b h s j w λ k e. members k .yes e) beyond-sum
 
 -- ---- in the paper's words
 
--- the least number that has the property P; none where no number has it
-abbrev pub Least : (ℤ → Type 0) → Option ℤ → Type 0
-Least P none = (z : ℤ) → P z → ⊥
-Least P (some z) = P z × ((y : ℤ) → P y → z ≤ℤ y)
+-- the least number that has the property P, where it is below `high`; none where no such number is below it
+abbrev pub FallsBelow : (ℤ → Type 0) → ℤ → Option ℤ → Type 0
+FallsBelow P high none = (z : ℤ) → P z → high ≤ℤ z
+FallsBelow P high (some z) = (P z × ((y : ℤ) → P y → z ≤ℤ y)) × (z <ℤ high)
 
 -- the time that an answer gives
 abbrev pub timeOf : EnergyBound → Option ℤ
@@ -131,22 +132,27 @@ module _ (v : View) (a : ℕ) (z : ℤ) where
       }
 
 -- "E of a live B is at least (least E in S) + (sum of lengths in S) for each non-empty set S of valid jobs with arcs to B":
--- at side early the answer is the greatest of these sums, and none exactly where there is no such set.
+-- at side early the answer is the greatest of these sums where it is above the floor, and none exactly where no such sum is.
 pub raise-exact : (b : Board) → Within b → (j w : ℕ) → ((k : ℕ) → Decides (bit w k) (Valid (view b) k × Arc (view b) k j))
-    → (r : EnergyBound) → Greatest (Sum early (b .earliest) (b .lengths) w) (boundOf early r) → Greatest (SumR4 (view b) j) (timeOf r)
-raise-exact b h j w members r g = go r (greatest-beyond b h early j w members (boundOf early r) g)
+    → (floor : ℤ) (r : EnergyBound) → Exceeds (Sum early (b .earliest) (b .lengths) w) floor (boundOf early r)
+    → Exceeds (SumR4 (view b) j) floor (timeOf r)
+raise-exact b h j w members floor r g = go r (exceeds-beyond b h early j w members floor (boundOf early r) g)
   where
-    go : (r : EnergyBound) → Greatest (SumBeyond (view b) early j) (boundOf early r) → Greatest (SumR4 (view b) j) (timeOf r)
-    go Unbounded g = greatest-same _ _ (beyond-R4 (view b) j) (R4-beyond (view b) j) none g
-    go (At t) g = greatest-same _ _ (beyond-R4 (view b) j) (R4-beyond (view b) j) (some t) g
+    go : (r : EnergyBound) → Exceeds (SumBeyond (view b) early j) floor (boundOf early r) → Exceeds (SumR4 (view b) j) floor (timeOf r)
+    go Unbounded g = exceeds-same _ _ (beyond-R4 (view b) j) (R4-beyond (view b) j) floor none g
+    go (At t) g = exceeds-same _ _ (beyond-R4 (view b) j) (R4-beyond (view b) j) floor (some t) g
 
 -- "D of a live A is at most (greatest D in S) - (sum of lengths in S) for each non-empty set S of valid jobs that A has arcs
--- to": at side late the answer is the least of these differences, and none exactly where there is no such set.
+-- to": at side late the answer is the least of these differences where it is below the floor, and none exactly where none is.
 pub lower-exact : (b : Board) → Within b → (j w : ℕ) → ((k : ℕ) → Decides (bit w k) (Valid (view b) k × Arc (view b) j k))
-    → (r : EnergyBound) → Greatest (Sum late (b .latest) (b .lengths) w) (boundOf late r) → Least (DifferenceR5 (view b) j) (timeOf r)
-lower-exact b h j w members r g = go r (greatest-beyond b h late j w members (boundOf late r) g)
+    → (floor : ℤ) (r : EnergyBound) → Exceeds (Sum late (b .latest) (b .lengths) w) (negℤ floor) (boundOf late r)
+    → FallsBelow (DifferenceR5 (view b) j) floor (timeOf r)
+lower-exact b h j w members floor r g = go r (exceeds-beyond b h late j w members (negℤ floor) (boundOf late r) g)
   where
-    go : (r : EnergyBound) → Greatest (SumBeyond (view b) late j) (boundOf late r) → Least (DifferenceR5 (view b) j) (timeOf r)
-    go Unbounded g = λ z p. g (negℤ z) (R5-beyond (view b) j z p)
-    go (At t) g =
-        (beyond-R5 (view b) j t (g .0), λ y p. omega (whole, g .1 (negℤ y) (R5-beyond (view b) j y p), minus y, minus t))
+    turned : (y : ℤ) → DifferenceR5 (view b) j y → SumBeyond (view b) late j (negℤ y)
+    turned y p = R5-beyond (view b) j y p
+
+    go : (r : EnergyBound) → Exceeds (SumBeyond (view b) late j) (negℤ floor) (boundOf late r) → FallsBelow (DifferenceR5 (view b) j) floor (timeOf r)
+    go Unbounded g = λ z p. omega (whole, g (negℤ z) (turned z p), minus z, minus floor)
+    go (At t) ((p, most), over) =
+        ((beyond-R5 (view b) j t p, λ y q. omega (whole, most (negℤ y) (turned y q), minus y, minus t)), omega (whole, over, minus t, minus floor))

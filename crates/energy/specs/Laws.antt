@@ -23,7 +23,7 @@ use Rattle.board.specs.Paper.View.{Side, early, late}
 use Rattle.board.specs.Paper.Limits.{IsTime, firstMinute, jobLimit}
 use Rattle.board.specs.Paper.Values.{turned}
 use Rattle.board.specs.Tests.Ranges.{time-moderate}
-use Rattle.energy.specs.Energy.{boundAt, lengthAt, Times, Lengths, load, Comes, Strikes, none-struck, struck, Beats, Sum, Greatest}
+use Rattle.energy.specs.Energy.{boundAt, lengthAt, endAt, Times, Lengths, load, Comes, Strikes, none-struck, struck, Beats, Sum, Exceeds, over}
 
 -- ---- what the code adds fits an i32
 
@@ -57,12 +57,18 @@ pub turned-back : (s : Side) (z : ℤ) → turned s (turned s z) ≡ z
 turned-back early z = refl
 turned-back late z = omega (whole, minus z, minus (negℤ z))
 
--- a bound as a time is that bound
-pub turned-greatest : (P : ℤ → Type 0) (s : Side) (best t : ℤ) → t ≡ turned s best → Greatest P (some best) → Greatest P (some (turned s t))
-turned-greatest P s best t e = subst⁻¹ (λ z. Greatest P (some z)) (ap (turned s) e ∙ turned-back s best)
+pub turned-moderate : (s : Side) (z : ℤ) → Moderate z → Moderate (turned s z)
+turned-moderate early z m = m
+turned-moderate late z m = (omega (whole, minus z), omega (whole, minus z))
 
 pub bound-moderate : (s : Side) {times : List ℤ} → Times times → (k : ℕ) → Moderate (boundAt s times k)
 bound-moderate s hours k = time-moderate (turned-time s _ (hours .time k))
+
+pub end-moderate : (s : Side) {times lengths : List ℤ} → Times times → Lengths lengths → (k : ℕ) → Moderate (endAt s times lengths k)
+end-moderate s {times} {lengths} hours work k =
+    let t = turned-time s _ (hours .time k) in
+    let sum = plus (boundAt s times k) (lengthAt lengths k) in
+    (omega (whole, sum, t .low, work .low k), omega (whole, sum, t .high, work .high k))
 
 moderate-fits : (z : ℤ) → Moderate z → SFits w32 z
 moderate-fits z m = fits z (omega whole) (omega whole)
@@ -119,14 +125,19 @@ pub record InPlay (s : Side) (times lengths : List ℤ) (set left : ℕ) (best :
   pub inside : (k : ℕ) → bit left k ≡ true → bit set k ≡ true
   pub covered : (z : ℤ) (p : Sum s times lengths set z) → (z ≤ℤ best) ⊎ Open s times set left (p .first)
 
--- Before the first round `best` is a time that no sum falls short of, and then the sum of a set.
-abbrev pub Reached : Side → List ℤ → List ℤ → ℕ → ℕ → ℤ → Type 0
-Reached s times lengths set left best = ((left ≡ set) × (best ≡ firstMinute)) ⊎ Sum s times lengths set best
+-- the best so far: the floor, or the sum of a set
+abbrev pub Best : Side → List ℤ → List ℤ → ℕ → ℤ → ℤ → Type 0
+Best s times lengths set low z = (z ≡ low) ⊎ Sum s times lengths set z
+
+module _ {s : Side} {times lengths : List ℤ} {set : ℕ} {low : ℤ} where
+  pub better : {z x : ℤ} → Best s times lengths set low z → Best s times lengths set low x → Best s times lengths set low (greater z x)
+  better {z} {x} h g = by-test (Best s times lengths set low) (ltZ z x) x z (λ _. g) (λ _. h)
+
+  pub best-moderate : {z : ℤ} → Times times → Lengths lengths → Moderate low → Best s times lengths set low z → Moderate z
+  best-moderate hours work m (inl e) = (omega (whole, e), omega (whole, e))
+  best-moderate hours work m (inr q) = let (l, h) = sum-range hours work q in (omega whole, omega whole)
 
 module _ {s : Side} {times lengths : List ℤ} {set : ℕ} where
-  pub no-sum : set ≡ 0 → Greatest (Sum s times lengths set) none
-  no-sum e z p = refuted (ap (λ w. bit w (p .first)) e ∙ bit-zero (p .first)) (p .inside (p .first) (p .member))
-
   pub all-in-play : {left : ℕ} {best : ℤ} → set < 2 ^ jobLimit → left ≡ set → InPlay s times lengths set left best
   all-in-play {left} fits same =
       record {
@@ -135,13 +146,15 @@ module _ {s : Side} {times lengths : List ℤ} {set : ℕ} where
         covered = λ z p. inr λ y e l. rw same e;
       }
 
-  pub none-in-play : {left : ℕ} {best : ℤ} → set ≢ 0 → left ≡ 0 → InPlay s times lengths set left best → Reached s times lengths set left best
-      → Greatest (Sum s times lengths set) (some best)
-  none-in-play {left} {best} some-job empty p r = (greatest r, λ z q. closed z q (p .covered z q))
+  -- once no job is in play, no sum is above the best
+  pub none-in-play : {left : ℕ} {low best : ℤ} → left ≡ 0 → InPlay s times lengths set left best → Best s times lengths set low best
+      → Exceeds (Sum s times lengths set) low (over low best)
+  none-in-play {left} {low} {best} empty p r =
+      by-test (Exceeds (Sum s times lengths set) low) (ltZ low best) (some best) none (λ e. ((greatest e r, under), omega whole)) λ e z q. omega (whole, under z q)
     where
-      greatest : Reached s times lengths set left best → Sum s times lengths set best
-      greatest (inl e) = absurd (some-job (sym (e .0) ∙ empty))
-      greatest (inr q) = q
+      greatest : ltZ low best ≡ true → Best s times lengths set low best → Sum s times lengths set best
+      greatest e (inl same) = absurd (omega (whole, same))
+      greatest e (inr q) = q
 
       closed : (z : ℤ) (q : Sum s times lengths set z) → (z ≤ℤ best) ⊎ Open s times set left (q .first) → z ≤ℤ best
       closed z q (inl l) = l
@@ -149,9 +162,8 @@ module _ {s : Side} {times lengths : List ℤ} {set : ℕ} where
           let x = q .first in
           absurd (refuted (ap (λ w. bit w x) empty ∙ bit-zero x) (on x (q .inside x (q .member)) (omega whole)))
 
-  pub best-moderate : {left : ℕ} {best : ℤ} → Times times → Lengths lengths → Reached s times lengths set left best → Moderate best
-  best-moderate hours work (inl e) = (omega (whole, e .1), omega (whole, e .1))
-  best-moderate hours work (inr q) = let (low, high) = sum-range hours work q in (omega whole, omega whole)
+      under : (z : ℤ) → Sum s times lengths set z → z ≤ℤ best
+      under z q = closed z q (p .covered z q)
 
   -- a greater best covers no less
   raised : {left : ℕ} {best top : ℤ} → best ≤ℤ top → InPlay s times lengths set left best → InPlay s times lengths set left top
@@ -199,17 +211,8 @@ strikes-inside fits (struck w k before width member under) =
 -- the best is raised to the sum of all the jobs in play, low + all, if that is more, and jobs are struck
 module _ {s : Side} {times lengths : List ℤ} {set left : ℕ} {best low all top : ℤ} (hours : Times times) (work : Lengths lengths)
     (p : InPlay s times lengths set left best) (c : Comes s times lengths left low all) (some-job : left ≢ 0) (is : top ≡ greater best (low +ℤ all)) where
-  pub top-reached : Reached s times lengths set left best → Sum s times lengths set top
-  top-reached r = subst⁻¹ (Sum s times lengths set) is (by-test (Sum s times lengths set) (ltZ best (low +ℤ all)) (low +ℤ all) best (λ e. now) λ e. go e r)
-    where
-      now : Sum s times lengths set (low +ℤ all)
-      now = part-sum (p .inside) c some-job
-
-      go : ltZ best (low +ℤ all) ≡ false → Reached s times lengths set left best → Sum s times lengths set best
-      go e (inr q) = q
-      go e (inl d) =
-          let same : low +ℤ all ≡ best = omega (whole, d .1, sum-range hours work now .0) in
-          subst (Sum s times lengths set) same now
+  pub top-best : {floor : ℤ} → Best s times lengths set floor best → Best s times lengths set floor top
+  top-best r = subst⁻¹ (Best s times lengths set _) is (better r (inr (part-sum (p .inside) c some-job)))
 
   module _ {kept : ℕ} (strikes : Strikes s times lengths top left kept) where
     pub round : InPlay s times lengths set kept top

@@ -2,29 +2,22 @@
 use mathlib.Core.Path.{_≡_, refl, sym, ap, _∙_, subst, subst⁻¹}
 use mathlib.Core.Bool.{true, false}
 use mathlib.Core.List.{List}
-use mathlib.Core.Logic.{_⊎_, inl, inr}
-use mathlib.Core.Option.{Option, none, some}
+use mathlib.Core.Logic.{inl, inr}
+use mathlib.Core.Option.{some}
 use Prim.Native.Nat.{ℕ, _<_}
 use native.Mathlib.Omega.{arith}
 use lib.Dec.{eqb}
 use lib.IntN.{ℤ, pos, _+ℤ_}
-use lib.Signed.{ltZ, _<ℤ_}
+use lib.Signed.{ltZ}
 use borrow.Author.Tests.{eq-eqb, ne-eqb, eqb-true}
 use Rattle.words.specs.Bit.{bit}
-use Rattle.minutes.specs.Bools.{by-test}
 use Rattle.minutes.specs.Linear.{whole, plus}
 use Rattle.minutes.specs.Sum.{sum, total, total-member, total-more}
-use Rattle.minutes.specs.Time.{Moderate, greater}
 use Rattle.board.specs.Paper.View.{Side}
 use Rattle.board.specs.Paper.Limits.{jobLimit}
 use Rattle.board.specs.Paper.Values.{turned}
-use Rattle.energy.specs.Energy.{boundAt, lengthAt, Times, Lengths, Sum}
-use Rattle.energy.specs.Laws.{turned-time, turned-back, sum-range}
-
--- a bound above that of job j, to which a set of jobs of the word w pushes it
-abbrev pub Pushes : Side → List ℤ → List ℤ → ℕ → ℕ → Option ℤ → Type 0
-Pushes s times lengths w j none = Unit
-Pushes s times lengths w j (some z) = Sum s times lengths w z × (boundAt s times j <ℤ z)
+use Rattle.energy.specs.Energy.{boundAt, lengthAt, endAt, Sum, Pushes}
+use Rattle.energy.specs.Laws.{Best, turned-back}
 
 nothing : (f : ℕ → ℤ) → total jobLimit (λ _. false) f ≡ pos 0
 unfolding sum
@@ -32,7 +25,7 @@ nothing f = total-more 0 jobLimit (λ _. false) f (omega arith) λ _ _. refl
 
 module _ (s : Side) (times lengths : List ℤ) (w : ℕ) where
   -- the set of k alone
-  pub single : (k : ℕ) → k < jobLimit → bit w k ≡ true → Sum s times lengths w (boundAt s times k +ℤ lengthAt lengths k)
+  pub single : (k : ℕ) → k < jobLimit → bit w k ≡ true → Sum s times lengths w (endAt s times lengths k)
   single k place member =
       record {
         set = eqb k;
@@ -49,20 +42,10 @@ module _ (s : Side) (times lengths : List ℤ) (w : ℕ) where
       plus-none : lengthAt lengths k +ℤ total jobLimit (λ _. false) (lengthAt lengths) ≡ lengthAt lengths k
       plus-none = omega (whole, nothing (lengthAt lengths), plus (lengthAt lengths k) (total jobLimit (λ _. false) (lengthAt lengths)))
 
-  -- the best so far: the bound of job j itself, or a sum
-  abbrev pub Best : ℕ → ℤ → Type 0
-  Best j z = (z ≡ boundAt s times j) ⊎ Sum s times lengths w z
-
-  pub better : (j : ℕ) (z x : ℤ) → Best j z → Best j x → Best j (greater z x)
-  better j z x h g = by-test (Best j) (ltZ z x) x z (λ _. g) (λ _. h)
-
-  pub pushes : (j : ℕ) (z t : ℤ) → Best j z → ltZ (boundAt s times j) z ≡ true → t ≡ turned s z → Pushes s times lengths w j (some (turned s t))
+  pub pushes : (j : ℕ) (z t : ℤ) → Best s times lengths w (boundAt s times j) z → ltZ (boundAt s times j) z ≡ true → t ≡ turned s z
+      → Pushes s times lengths w j (some (turned s t))
   pushes j z t h above e = subst⁻¹ (λ y. Pushes s times lengths w j (some y)) (ap (turned s) e ∙ turned-back s z) (go h)
     where
-      go : Best j z → Pushes s times lengths w j (some z)
+      go : Best s times lengths w (boundAt s times j) z → Pushes s times lengths w j (some z)
       go (inl same) = absurd (omega (whole, same))
       go (inr sum) = (sum, omega whole)
-
-  pub best-moderate : Times times → Lengths lengths → (j : ℕ) (z : ℤ) → Best j z → Moderate z
-  best-moderate hours work j z (inl e) = let t = turned-time s _ (hours .time j) in (omega (whole, e, t .low), omega (whole, e, t .high))
-  best-moderate hours work j z (inr sum) = let (low, high) = sum-range hours work sum in (omega whole, omega whole)

@@ -10,7 +10,7 @@ ghost use Rattle.energy.specs.Energy as energy;
 
 pub mod precedence;
 
-// The bound that some jobs leave to another: none where there are no such jobs.
+// The bound that some jobs leave to another, where it is above what that job has already.
 pub enum EnergyBound {
     Unbounded,
     At(i32),
@@ -34,6 +34,25 @@ fn bound(side: Side, times: &[i32; Board::JOBS], k: usize) -> i32
     ensures { λ r. ⌜ r ≡ energy.boundAt (paper.sideOf side) (now (times .entry)) k ⌝ }
 {
     turned(side, times[k])
+}
+
+// The bound that the job at place k leaves to the jobs beyond it.
+fn end(side: Side, times: &[i32; Board::JOBS], lengths: &[i32; Board::JOBS], k: usize) -> i32
+    requires { ⌜ energy.Times (now times) × energy.Lengths (now lengths) × (k < jobLimit) ⌝ }
+    ensures { λ r. ⌜ r ≡ energy.endAt (paper.sideOf side) (now (times .entry)) (now (lengths .entry)) k ⌝ }
+{
+    minutes::sum(bound(side, times, k), lengths[k])
+}
+
+// A bound as a time, where it is above the floor.
+fn above(side: Side, floor: i32, best: i32) -> EnergyBound
+    requires { ⌜ Moderate best ⌝ }
+    ensures { λ r. ⌜ energy.boundOf (paper.sideOf side) r ≡ energy.over floor best ⌝ }
+{
+    if floor < best {
+        return EnergyBound::At(turned(side, best));
+    }
+    EnergyBound::Unbounded
 }
 
 // The jobs still in play, the least of their bounds, and the sum of their lengths.
@@ -101,26 +120,39 @@ fn strike(
     }
 }
 
-// Over the jobs still in play take their least bound and all their lengths, keep the greatest such sum, strike jobs whose
-// bound can't beat it any more, and repeat.
+// The greatest sum of a set of jobs, where it is above the floor, a time. Over the jobs still in play take their least bound and all
+// their lengths, keep the greatest such sum, strike jobs whose bound can't beat it any more, and repeat. The floor is the first to
+// be beaten, so that where no sum is above it, one pass strikes all.
 pub fn energy_bound(
     side: Side,
     times: &[i32; Board::JOBS],
     lengths: &[i32; Board::JOBS],
     set: u64,
+    floor: i32,
 ) -> EnergyBound
-    requires { ⌜ energy.Times (now times) ⌝ }
-    requires { ⌜ energy.Lengths (now lengths) ⌝ }
-    ensures { λ r. ⌜ energy.Greatest (energy.Sum (paper.sideOf side) (now (times .entry)) (now (lengths .entry)) set) (energy.boundOf (paper.sideOf side) r) ⌝ }
+    requires { ⌜ energy.Times (now times) × energy.Lengths (now lengths) × Moderate floor ⌝ }
+    ensures { λ r. ⌜ energy.Exceeds (energy.Sum (paper.sideOf side) (now (times .entry)) (now (lengths .entry)) set) (paper.turned (paper.sideOf side) floor) (energy.boundOf (paper.sideOf side) r) ⌝ }
 {
-    if set == 0 {
-        return EnergyBound::Unbounded;
-    }
-    let mut best = Board::FIRST_MINUTE;
+    let low = turned(side, floor);
+    let mut best = low;
     let mut play = whole(side, times, lengths, set);
     while play.set != 0 {
         best = minutes::greater(best, minutes::sum(play.least, play.total));
         play = strike(side, times, lengths, play.set, play.total, best);
     }
-    EnergyBound::At(turned(side, best))
+    above(side, low, best)
+}
+
+// The same for the job at place k alone.
+pub fn single_bound(
+    side: Side,
+    times: &[i32; Board::JOBS],
+    lengths: &[i32; Board::JOBS],
+    k: usize,
+    floor: i32,
+) -> EnergyBound
+    requires { ⌜ energy.Times (now times) × energy.Lengths (now lengths) × (k < jobLimit) × Moderate floor ⌝ }
+    ensures { λ r. ⌜ energy.boundOf (paper.sideOf side) r ≡ energy.over (paper.turned (paper.sideOf side) floor) (energy.endAt (paper.sideOf side) (now (times .entry)) (now (lengths .entry)) k) ⌝ }
+{
+    above(side, turned(side, floor), end(side, times, lengths, k))
 }

@@ -1,25 +1,16 @@
 // Precedence: R4 and R5 with sets of one job and with the set of all, which cost a walk over the jobs beyond a job each.
 use crate::EnergyBound;
 use crate::bound;
+use crate::end;
 use crate::turned;
 use crate::whole;
 use board::Board;
 use board::facts::Side;
-ghost use mathlib.Core.Path.{_≡_};
 ghost use Prim.Native.Nat.{_<_};
-ghost use lib.IntN.{_+ℤ_};
 ghost use Rattle.board.specs.Paper.Limits.{jobLimit};
 ghost use Rattle.board.specs.Paper.Values.{sideOf};
-ghost use Rattle.energy.specs.Energy.{boundAt, lengthAt, boundOf, Times, Lengths};
-ghost use Rattle.energy.specs.Precedence.{Best, Pushes};
-
-// The bound that the job at place k leaves to the jobs beyond it.
-fn end(side: Side, times: &[i32; Board::JOBS], lengths: &[i32; Board::JOBS], k: usize) -> i32
-    requires { ⌜ Times (now times) × Lengths (now lengths) × (k < jobLimit) ⌝ }
-    ensures { λ r. ⌜ r ≡ boundAt (sideOf side) (now (times .entry)) k +ℤ lengthAt (now (lengths .entry)) k ⌝ }
-{
-    minutes::sum(bound(side, times, k), lengths[k])
-}
+ghost use Rattle.energy.specs.Energy.{boundAt, boundOf, Times, Lengths, Pushes};
+ghost use Rattle.energy.specs.Laws.{Best};
 
 // The greatest bound that one job of the set leaves to `job`, or that of `job` itself.
 fn push_singly(
@@ -30,7 +21,7 @@ fn push_singly(
     job: usize,
 ) -> i32
     requires { ⌜ Times (now times) × Lengths (now lengths) × (job < jobLimit) ⌝ }
-    ensures { λ r. ⌜ Best (sideOf side) (now (times .entry)) (now (lengths .entry)) set job r ⌝ }
+    ensures { λ r. ⌜ Best (sideOf side) (now (times .entry)) (now (lengths .entry)) set (boundAt (sideOf side) (now (times .entry)) job) r ⌝ }
 {
     let mut best = bound(side, times, job);
     let mut left = set;
@@ -51,7 +42,7 @@ fn push_together(
     job: usize,
 ) -> i32
     requires { ⌜ Times (now times) × Lengths (now lengths) × (job < jobLimit) ⌝ }
-    ensures { λ r. ⌜ Best (sideOf side) (now (times .entry)) (now (lengths .entry)) set job r ⌝ }
+    ensures { λ r. ⌜ Best (sideOf side) (now (times .entry)) (now (lengths .entry)) set (boundAt (sideOf side) (now (times .entry)) job) r ⌝ }
 {
     if set == 0 {
         return bound(side, times, job);

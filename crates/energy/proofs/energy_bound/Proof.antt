@@ -2,44 +2,44 @@
 -- play comes to; the measure is the word of that set, of which each round strikes one job at least. Assumes nothing.
 use borrow.Author.Needs.{needs}
 use mathlib.Core.Path.{_≡_, refl, _∙_}
-use mathlib.Core.Logic.{inl, inr}
+use mathlib.Core.Logic.{inl}
 use lib.IntN.{_+ℤ_}
 use mir.Syntax.{w32}
 use mir.Val.{toZ, ofZ}
 use mir.ValLaws.{toZ-ofZ}
 use Rattle.minutes.specs.Time.{greater}
-use Rattle.board.specs.Paper.Values.{sideOf}
+use Rattle.board.specs.Paper.Values.{sideOf, turned}
 use Rattle.energy.specs.Energy.{Comes}
-use Rattle.energy.specs.Laws.{InPlay, Reached, turned-greatest, low-back, all-back, back-moderate, best-moderate, all-in-play, none-in-play, no-sum, top-reached, round, round-falls}
+use Rattle.energy.specs.Laws.{InPlay, Best, low-back, all-back, back-moderate, best-moderate, turned-moderate, all-in-play, none-in-play, top-best, round, round-falls}
 use Rattle.energy.proofs.energy_bound.Statement.{statement}
 use Rattle.energy.proofs.energy_bound.Tie as tie
 
 abbrev Inv-loop : tie.InvT-loop
-Inv-loop side times lengths set best₀ play₀ best play =
+Inv-loop side times lengths set floor low best₀ play₀ best play =
     InPlay (sideOf side) times lengths set (play .set) (toZ w32 best)
-    × Reached (sideOf side) times lengths set (play .set) (toZ w32 best)
+    × Best (sideOf side) times lengths set (toZ w32 low) (toZ w32 best)
     × Comes (sideOf side) times lengths (play .set) (play .least) (play .total)
 
 abbrev μ-loop : tie.MeasureT-loop
-μ-loop side times lengths set best₀ play₀ best play = play .set
+μ-loop side times lengths set floor low best₀ play₀ best play = play .set
 
-returns : tie.Need-returns Inv-loop μ-loop
-returns c = no-sum (c .if1 .taken)
+turned-requires : tie.Need-turned-requires Inv-loop μ-loop
+turned-requires c κs = search needs
 
 whole-requires : tie.Need-whole-requires Inv-loop μ-loop
-whole-requires c κs = c .before .pre
+whole-requires c κs = search needs
 
 loop-holds : tie.Need-loop-holds Inv-loop μ-loop
 loop-holds c =
     let (same, comes) = c .whole .ensures in
-    (all-in-play (c .before .before .fits .set .fits) same, inl (same, refl), rw same comes)
+    (all-in-play (c .before .before .fits .set .fits) same, inl refl, rw same comes)
 
 sum-requires : tie.Need-sum-requires Inv-loop μ-loop
 sum-requires c κs =
     let t = c .before .before in
     let at = t .before .before in
-    let (hours, work) = at .before .before .before .pre in
-    back-moderate hours work (at .loop .inv .2) (t .if2 .taken)
+    let (hours, work, _) = at .before .before .before .pre in
+    back-moderate hours work (at .loop .inv .2) (t .if1 .taken)
 
 greater-requires : tie.Need-greater-requires Inv-loop μ-loop
 greater-requires c κs = search needs
@@ -51,55 +51,58 @@ top-is : (c : tie.After-greater Inv-loop μ-loop)
 top-is c =
     let t = c .before .before .before .before in
     let at = t .before .before in
-    let (hours, work) = at .before .before .before .pre in
+    let (hours, work, _) = at .before .before .before .pre in
     let comes = at .loop .inv .2 in
     let sum = c .before .sum in
     let sum-is = toZ-ofZ w32 _ (record { sfits = sum .ok })
-    ∙ (rw (low-back hours work comes (t .if2 .taken), all-back hours work comes (t .if2 .taken)) at (sum .ensures)) in
+    ∙ (rw (low-back hours work comes (t .if1 .taken), all-back hours work comes (t .if1 .taken)) at (sum .ensures)) in
     toZ-ofZ w32 _ (record { sfits = c .greater .ok }) ∙ (rw sum-is at (c .greater .ensures))
 
 strike-requires : tie.Need-strike-requires Inv-loop μ-loop
 strike-requires c κs =
     let t = c .before .before .before .before .before in
     let at = t .before .before in
-    let (hours, work) = at .before .before .before .pre in
+    let (hours, work, _) = at .before .before .before .pre in
     let comes = at .loop .inv .2 in
-    (hours, (work, all-back hours work comes (t .if2 .taken) ∙ comes .loaded))
+    (hours, (work, all-back hours work comes (t .if1 .taken) ∙ comes .loaded))
 
 loop-less : tie.Need-loop-less Inv-loop μ-loop
 loop-less c =
     let t = c .before .before .before .before .before .before in
     let at = t .before .before in
-    let (hours, work) = at .before .before .before .pre in
+    let (hours, work, _) = at .before .before .before .pre in
     let (p, _, comes) = at .loop .inv in
     let (strikes, told) = c .strike .ensures in
-    round-falls hours work p comes (t .if2 .taken) (top-is (c .before .before)) strikes (told .0)
+    round-falls hours work p comes (t .if1 .taken) (top-is (c .before .before)) strikes (told .0)
 
 loop-again : tie.Need-loop-again Inv-loop μ-loop
 loop-again c =
     let t = c .before .before .before .before .before .before in
     let at = t .before .before in
-    let (hours, work) = at .before .before .before .pre in
-    let (p, reached, comes) = at .loop .inv in
+    let (hours, work, _) = at .before .before .before .pre in
+    let (p, best, comes) = at .loop .inv in
     let top = top-is (c .before .before) in (
-      round hours work p comes (t .if2 .taken) top (c .strike .ensures .0),
-      inr (top-reached hours work p comes (t .if2 .taken) top reached),
+      round hours work p comes (t .if1 .taken) top (c .strike .ensures .0),
+      top-best hours work p comes (t .if1 .taken) top best,
       c .strike .ensures .1 .1,
     )
 
-turned-requires : tie.Need-turned-requires Inv-loop μ-loop
-turned-requires c κs =
-    let at = c .before .before in
-    let (hours, work) = at .before .before .before .pre in
-    best-moderate hours work (at .loop .inv .1)
+-- the floor as a bound, as the machine reads it back from its bits
+low-is : (c : tie.After-turned Inv-loop μ-loop) → toZ w32 (ofZ w32 (c .turned .result)) ≡ turned (sideOf (c .before .args .side)) (c .before .args .floor)
+low-is c = toZ-ofZ w32 _ (record { sfits = c .turned .ok }) ∙ simp (toZ-ofZ, c .before .fits .floor) at (c .turned .ensures)
 
-returns-2 : tie.Need-returns-2 Inv-loop μ-loop
-returns-2 c =
+above-requires : tie.Need-above-requires Inv-loop μ-loop
+above-requires c κs =
+    let at = c .before .before in
+    let start = at .before .before .before in
+    let (hours, work, floor) = start .pre in
+    best-moderate hours work (rw (low-is (at .before .before)) (turned-moderate (sideOf (start .args .side)) (start .args .floor) floor)) (at .loop .inv .1)
+
+returns : tie.Need-returns Inv-loop μ-loop
+returns c =
     let at = c .before .before .before in
-    let first = at .before .before in
-    let (p, reached, _) = at .loop .inv in
-    let back = toZ-ofZ w32 _ (record { sfits = c .turned .ok }) ∙ c .turned .ensures in
-    turned-greatest _ (sideOf (first .before .args .side)) _ _ back (none-in-play (first .if1 .left) (c .before .if2 .left) p reached)
+    let (p, best, _) = at .loop .inv in
+    rw (c .above .ensures, ← low-is (at .before .before)) (none-in-play (c .before .if1 .left) p best)
 
 pub energy-bound-spec : {M : Type 1} → statement M
 energy-bound-spec =
@@ -107,7 +110,7 @@ energy-bound-spec =
     (tie.spec
     Inv-loop
     μ-loop
-    returns
+    turned-requires
     whole-requires
     loop-holds
     sum-requires
@@ -115,5 +118,5 @@ energy-bound-spec =
     strike-requires
     loop-less
     loop-again
-    turned-requires
-    returns-2)
+    above-requires
+    returns)

@@ -5,20 +5,22 @@ use mir.Syntax.{w32}
 use mir.Val.{toZ, ofZ}
 use mir.ValLaws.{toZ-ofZ}
 use Rattle.board.specs.Paper.Values.{sideOf}
-use Rattle.energy.specs.Precedence.{Best, better, pushes, best-moderate}
+use Rattle.energy.specs.Energy.{boundAt}
+use Rattle.energy.specs.Laws.{Best, better, best-moderate, bound-moderate}
+use Rattle.energy.specs.Precedence.{pushes}
 use Rattle.energy.proofs.precedence.push.Statement.{statement}
 use Rattle.energy.proofs.precedence.push.Tie as tie
 
 -- the greater of the two is the job's own bound or a sum
 best : (c : tie.After-greater) → let a = c .before .before .before .args in
-    Best (sideOf (a .side)) (a .times .now) (a .lengths .now) (a .set) (a .job) (toZ w32 (ofZ w32 (c .greater .result)))
+    Best (sideOf (a .side)) (a .times .now) (a .lengths .now) (a .set) (boundAt (sideOf (a .side)) (a .times .now) (a .job)) (toZ w32 (ofZ w32 (c .greater .result)))
 best c =
     let is = toZ-ofZ w32 _ (record { sfits = c .greater .ok }) ∙ c .greater .ensures in
     let singly = c .before .before .push-singly in
     let all = c .before .push-together in
     let one = toZ-ofZ w32 (singly .result) (record { sfits = singly .ok }) in
     let two = toZ-ofZ w32 (all .result) (record { sfits = all .ok }) in
-    rw (is, one, two) (better _ _ _ _ _ _ _ (singly .ensures) (all .ensures))
+    rw (is, one, two) (better (singly .ensures) (all .ensures))
 
 push-singly-requires : tie.Need-push-singly-requires
 push-singly-requires c κs = search needs
@@ -33,7 +35,10 @@ bound-requires : tie.Need-bound-requires
 bound-requires c κs = search needs
 
 turned-requires : tie.Need-turned-requires
-turned-requires c κs = let (hours, work, _) = c .before .before .before .before .before .pre in best-moderate _ _ _ _ hours work _ _ (best (c .before .before))
+turned-requires c κs =
+    let start = c .before .before .before .before .before in
+    let (hours, work, _) = start .pre in
+    best-moderate hours work (bound-moderate (sideOf (start .args .side)) hours (start .args .job)) (best (c .before .before))
 
 returns : tie.Need-returns
 returns c =

@@ -13,13 +13,14 @@ use Rattle.words.specs.BitLaws.{without-lt}
 use Rattle.words.specs.Walk.{without-inside, walk-falls}
 use Rattle.board.specs.Paper.Values.{sideOf}
 use Rattle.energy.specs.Energy.{boundAt}
-use Rattle.energy.specs.Precedence.{Best, single, better}
+use Rattle.energy.specs.Laws.{Best, better}
+use Rattle.energy.specs.Precedence.{single}
 use Rattle.energy.proofs.precedence.push_singly.Statement.{statement}
 use Rattle.energy.proofs.precedence.push_singly.Tie as tie
 
 abbrev Inv-loop : tie.InvT-loop
 Inv-loop side times lengths set job best₀ left₀ best left =
-    (left < 2 ^ 64) × ((x : ℕ) → bit left x ≡ true → bit set x ≡ true) × Best (sideOf side) times lengths set job (toZ w32 best)
+    (left < 2 ^ 64) × ((x : ℕ) → bit left x ≡ true → bit set x ≡ true) × Best (sideOf side) times lengths set (boundAt (sideOf side) times job) (toZ w32 best)
 
 abbrev μ-loop : tie.MeasureT-loop
 μ-loop side times lengths set job best₀ left₀ best left = left
@@ -65,7 +66,7 @@ loop-again c =
     rw (s .without .ensures, top) (
       without-lt 64 (at .loop .left) k fits,
       λ x e. inside x (without-inside 64 (at .loop .left) k fits (low .ensures .width) x e),
-      better _ _ _ _ _ _ _ best (inr (single _ _ _ _ k (low .ensures .width) (inside k (low .ensures .member)))),
+      better best (inr (single _ _ _ _ k (low .ensures .width) (inside k (low .ensures .member)))),
     )
 
 returns : tie.Need-returns Inv-loop μ-loop

@@ -1,4 +1,4 @@
--- `energy::precedence::end` meets its contract: a time and a length are far from the ends of an i32. Assumes nothing.
+-- `energy::end` meets its contract: a time and a length are far from the ends of an i32. Assumes nothing.
 use borrow.Author.Needs.{needs}
 use mathlib.Core.Path.{_≡_, _∙_}
 use mir.Syntax.{w32}
@@ -8,8 +8,8 @@ use Rattle.board.specs.Tests.Ranges.{time-moderate}
 use Rattle.board.specs.Paper.Values.{sideOf}
 use Rattle.energy.specs.Energy.{boundAt}
 use Rattle.energy.specs.Laws.{turned-time, length-fits, length-moderate}
-use Rattle.energy.proofs.precedence.end.Statement.{statement}
-use Rattle.energy.proofs.precedence.end.Tie as tie
+use Rattle.energy.proofs.end.Statement.{statement}
+use Rattle.energy.proofs.end.Tie as tie
 
 bound-requires : tie.Need-bound-requires
 bound-requires c κs = search needs

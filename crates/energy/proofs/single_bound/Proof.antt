@@ -1,0 +1,35 @@
+-- `energy::single_bound` meets its contract: its calls are the definition. Assumes nothing.
+use mathlib.Core.Path.{_≡_, _∙_}
+use mir.Syntax.{w32}
+use mir.Val.{toZ, ofZ}
+use mir.ValLaws.{toZ-ofZ}
+use Rattle.board.specs.Paper.Values.{sideOf, turned}
+use Rattle.energy.specs.Laws.{end-moderate}
+use borrow.Author.Needs.{needs}
+use Rattle.energy.proofs.single_bound.Statement.{statement}
+use Rattle.energy.proofs.single_bound.Tie as tie
+
+turned-requires : tie.Need-turned-requires
+turned-requires c κs = search needs
+
+end-requires : tie.Need-end-requires
+end-requires c κs = search needs
+
+-- the floor as a bound, as the machine reads it back from its bits
+low-is : (c : tie.After-turned) → toZ w32 (ofZ w32 (c .turned .result)) ≡ turned (sideOf (c .before .args .side)) (c .before .args .floor)
+low-is c = toZ-ofZ w32 _ (record { sfits = c .turned .ok }) ∙ simp (toZ-ofZ, c .before .fits .floor) at (c .turned .ensures)
+
+above-requires : tie.Need-above-requires
+above-requires c κs =
+    let start = c .before .before in
+    let (hours, work, _, _) = start .pre in
+    rw (toZ-ofZ w32 _ (record { sfits = c .end .ok }) ∙ c .end .ensures) (end-moderate (sideOf (start .args .side)) hours work (start .args .k))
+
+returns : tie.Need-returns
+returns c =
+    let end = c .before .end in
+    let end-is = toZ-ofZ w32 _ (record { sfits = end .ok }) ∙ end .ensures in
+    c .above .ensures ∙ rw (end-is, low-is (c .before .before))
+
+pub single-bound-spec : {M : Type 1} → statement M
+single-bound-spec = tie.close (tie.spec turned-requires end-requires above-requires returns)
