@@ -3,6 +3,7 @@ pub mod Energy
 pub mod Members
 pub mod Laws
 pub mod Passed
+pub mod Single
 pub mod Precedence
 pub mod SumBeyond
 pub mod Exact

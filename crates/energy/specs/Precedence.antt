@@ -1,47 +1,19 @@
--- Sets of one, and the set of all: what a single job, or all of them, leave to the jobs beyond is one of the sums of R4 and R5.
-use mathlib.Core.Path.{_≡_, refl, sym, ap, _∙_, subst, subst⁻¹}
-use mathlib.Core.Bool.{true, false}
+-- Precedence: where the best so far, which is a job's own bound or the sum of a set, is above the job's bound, that set pushes it.
+use mathlib.Core.Path.{_≡_, ap, _∙_, subst⁻¹}
+use mathlib.Core.Bool.{true}
 use mathlib.Core.List.{List}
 use mathlib.Core.Logic.{inl, inr}
 use mathlib.Core.Option.{some}
-use Prim.Native.Nat.{ℕ, _<_}
-use native.Mathlib.Omega.{arith}
-use lib.Dec.{eqb}
-use lib.IntN.{ℤ, pos, _+ℤ_}
+use Prim.Native.Nat.{ℕ}
+use lib.IntN.{ℤ}
 use lib.Signed.{ltZ}
-use borrow.Author.Tests.{eq-eqb, ne-eqb, eqb-true}
-use Rattle.words.specs.Bit.{bit}
-use Rattle.minutes.specs.Linear.{whole, plus}
-use Rattle.minutes.specs.Sum.{sum, total, total-member, total-more}
+use Rattle.minutes.specs.Linear.{whole}
 use Rattle.board.specs.Paper.View.{Side}
-use Rattle.board.specs.Paper.Limits.{jobLimit}
 use Rattle.board.specs.Paper.Values.{turned}
-use Rattle.energy.specs.Energy.{boundAt, lengthAt, endAt, Sum, Pushes}
+use Rattle.energy.specs.Energy.{boundAt, Pushes}
 use Rattle.energy.specs.Laws.{Best, turned-back}
 
-nothing : (f : ℕ → ℤ) → total jobLimit (λ _. false) f ≡ pos 0
-unfolding sum
-nothing f = total-more 0 jobLimit (λ _. false) f (omega arith) λ _ _. refl
-
 module _ (s : Side) (times lengths : List ℤ) (w : ℕ) where
-  -- the set of k alone
-  pub single : (k : ℕ) → k < jobLimit → bit w k ≡ true → Sum s times lengths w (endAt s times lengths k)
-  single k place member =
-      record {
-        set = eqb k;
-        inside = λ x e. subst (λ y. bit w y ≡ true) (eqb-true k x e) member;
-        first = k;
-        member = eq-eqb k k refl;
-        least = λ x e. let same = eqb-true k x e in rw (← same) (omega whole);
-        is = cc (alone, plus-none);
-      }
-    where
-      alone : total jobLimit (eqb k) (lengthAt lengths) ≡ lengthAt lengths k +ℤ total jobLimit (λ _. false) (lengthAt lengths)
-      alone = total-member jobLimit (eqb k) (λ _. false) (lengthAt lengths) k place (eq-eqb k k refl) refl λ j ne. sym (ne-eqb k j λ e. ne (sym e))
-
-      plus-none : lengthAt lengths k +ℤ total jobLimit (λ _. false) (lengthAt lengths) ≡ lengthAt lengths k
-      plus-none = omega (whole, nothing (lengthAt lengths), plus (lengthAt lengths k) (total jobLimit (λ _. false) (lengthAt lengths)))
-
   pub pushes : (j : ℕ) (z t : ℤ) → Best s times lengths w (boundAt s times j) z → ltZ (boundAt s times j) z ≡ true → t ≡ turned s z
       → Pushes s times lengths w j (some (turned s t))
   pushes j z t h above e = subst⁻¹ (λ y. Pushes s times lengths w j (some y)) (ap (turned s) e ∙ turned-back s z) (go h)

@@ -17,7 +17,7 @@ use Rattle.board.specs.Order.Laws.{valid-up}
 use Rattle.board.specs.Inference.Infers.{Infers, r45}
 use Rattle.energy.specs.Exact.{timesOf, bound-is, sum-beyond}
 use Rattle.energy.specs.SumBeyond.{sum-pushes}
-use Rattle.energy.specs.Precedence.{Pushes}
+use Rattle.energy.specs.Energy.{Pushes}
 use Rattle.propagation.specs.Reaches.{Reached}
 
 -- what stands on side s

@@ -16,11 +16,15 @@ abbrev pub Searched : View → Type 0 → Option Fact → Type 0
 Searched v Q none = Q
 Searched v Q (some f) = Infers v f × (Holds v f → ⊥)
 
+-- the view shows what R4 or R5 infers of job j on side s
+abbrev pub SideObeys : View → Side → ℕ → Type 0
+SideObeys v s j = (S : ℕ → Bool) (m : ℤ) → Pushing v s j S m → (m +ℤ energy v S) ≤ℤ bound s (v .row j)
+
 module _ (v : View) where
   -- the view shows what R4, R5 and R6 infer of job i
   pub record JobObeys (i : ℕ) : Type 0 where
     pub room : D v i <ℤ (E v i +ℤ L v i) → ⊥
-    pub pushed : (s : Side) (S : ℕ → Bool) (m : ℤ) → Pushing v s i S m → (m +ℤ energy v S) ≤ℤ bound s (v .row i)
+    pub pushed : (s : Side) → SideObeys v s i
 
   -- the view shows what R1, through k, R2 and R3 infer of i and another job k
   pub record PairObeys (i k : ℕ) : Type 0 where

@@ -5,39 +5,102 @@ use board::facts::Fact;
 use board::facts::Side;
 use energy::EnergyBound;
 use energy::energy_bound;
+use energy::single_bound;
 use windows::Window;
+ghost use mathlib.Core.Path.{_≡_};
+ghost use mathlib.Core.Bool.{true};
+ghost use mathlib.Core.Logic.{_≢_};
 ghost use Prim.Native.Nat.{_<_};
+ghost use Rattle.words.specs.Bit.{bit};
 ghost use Rattle.board.specs.Paper.Limits.{jobLimit};
 ghost use Rattle.board.specs.Paper.Values.{sideOf};
+ghost use Rattle.board.specs.Tests.Decides.{Decides};
 ghost use Rattle.energy.specs.Energy.{boundOf, Times, Lengths};
 ghost use Rattle.rules.specs.Values.{inferredOf};
+ghost use Rattle.rules.specs.BoundBeyond.{OthersBeyond, BoundBeyond};
 ghost use Rattle.rules.specs.JobSearched.{SideSearched, JobSearched};
 
-// R4 and R5: what the bound that the valid jobs on one side of a job leave infers of its window.
-fn at_side(side: Side, job: usize, window: Window, bound: EnergyBound) -> Found
-    ensures { λ r. ⌜ SideSearched (sideOf side) job window (boundOf (sideOf side) bound) (inferredOf r) ⌝ }
+// A last job of the set: one with none of the others on its opposite side. Where each has one, as on a cycle, any job will do.
+fn last(set: u64, opposite: &[u64; Board::JOBS]) -> usize
+    requires { ⌜ set ≢ 0 ⌝ }
+    ensures { λ r. ⌜ (r < jobLimit) × (bit set r ≡ true) ⌝ }
 {
+    let mut k = words::lowest(set);
+    for _ in 0..Board::JOBS {
+        let further = words::intersection(opposite[k], set);
+        if further == 0 {
+            return k;
+        }
+        k = words::lowest(further);
+    }
+    k
+}
+
+// Is each job of the set but k in k's word?
+fn others_beyond(set: u64, k: usize, word: u64) -> bool
+    requires { ⌜ k < jobLimit ⌝ }
+    ensures { λ r. ⌜ Decides r (OthersBeyond set k word) ⌝ }
+{
+    words::difference(words::without(set, k), word) == 0
+}
+
+// R4 and R5: the bound that the valid jobs beyond a job on one side leave to it, where it is above its own. `times` and `beyond` are
+// those of that side. Where all others of these jobs lie beyond the last one, and its bound stands, it alone decides.
+pub fn bound_beyond<'a>(
+    side: Side,
+    job: usize,
+    times: &'a [i32; Board::JOBS],
+    lengths: &'a [i32; Board::JOBS],
+    beyond: &'a [u64; Board::JOBS],
+    opposite: &'a [u64; Board::JOBS],
+    valid: u64,
+) -> EnergyBound
+    requires { ⌜ (job < jobLimit) × Times (now times) × Lengths (now lengths) ⌝ }
+    ensures { λ r. ⌜ BoundBeyond (sideOf side) (now (times .entry)) (now (lengths .entry)) (now (beyond .entry)) valid job (boundOf (sideOf side) r) ⌝ }
+{
+    let set = words::intersection(valid, beyond[job]);
+    if set == 0 {
+        return EnergyBound::Unbounded;
+    }
+    let k = last(set, opposite);
+    if others_beyond(set, k, beyond[k]) {
+        return single_bound(side, times, lengths, k, times[job]);
+    }
+    energy_bound(side, times, lengths, set, times[job])
+}
+
+// What the valid jobs on one side of a job infer of its window.
+fn at_side<'a>(
+    side: Side,
+    job: usize,
+    times: &'a [i32; Board::JOBS],
+    lengths: &'a [i32; Board::JOBS],
+    beyond: &'a [u64; Board::JOBS],
+    opposite: &'a [u64; Board::JOBS],
+    valid: u64,
+) -> Found
+    requires { ⌜ (job < jobLimit) × Times (now times) × Lengths (now lengths) ⌝ }
+    ensures { λ r. ⌜ SideSearched (sideOf side) job (now (times .entry)) (now (lengths .entry)) (now (beyond .entry)) valid (inferredOf r) ⌝ }
+{
+    let bound = bound_beyond(side, job, times, lengths, beyond, opposite, valid);
     let EnergyBound::At(time) = bound else {
         return Found::Nothing;
     };
-    if window.exceeds(side, time) {
-        return Found::Inferred(Fact::Bound { side, job, time });
-    }
-    Found::Nothing
+    Found::Inferred(Fact::Bound { side, job, time })
 }
 
-// What R6, R4 and R5 infer of job i, with the sets before it and after it.
+// What R6, R4 and R5 infer of job i, with the words of the arcs before and after all jobs.
 pub fn at_job<'a>(
     i: usize,
     earliest: &'a [i32; Board::JOBS],
     latest: &'a [i32; Board::JOBS],
     lengths: &'a [i32; Board::JOBS],
+    before: &'a [u64; Board::JOBS],
+    after: &'a [u64; Board::JOBS],
     valid: u64,
-    before: u64,
-    after: u64,
 ) -> Found
     requires { ⌜ (i < jobLimit) × Times (now earliest) × Times (now latest) × Lengths (now lengths) ⌝ }
-    ensures { λ r. ⌜ JobSearched i (now (earliest .entry)) (now (latest .entry)) (now (lengths .entry)) valid before after (inferredOf r) ⌝ }
+    ensures { λ r. ⌜ JobSearched i (now (earliest .entry)) (now (latest .entry)) (now (lengths .entry)) (now (before .entry)) (now (after .entry)) valid (inferredOf r) ⌝ }
 {
     let window = Window {
         earliest: earliest[i],
@@ -46,21 +109,9 @@ pub fn at_job<'a>(
     if !window.holds(lengths[i]) {
         return Found::Inferred(Fact::Invalid { job: i });
     }
-    let push = energy_bound(
-        Side::Early,
-        earliest,
-        lengths,
-        words::intersection(valid, before),
-    );
-    let raised = at_side(Side::Early, i, window, push);
+    let raised = at_side(Side::Early, i, earliest, lengths, before, after, valid);
     if let Found::Inferred(fact) = raised {
         return Found::Inferred(fact);
     }
-    let pull = energy_bound(
-        Side::Late,
-        latest,
-        lengths,
-        words::intersection(valid, after),
-    );
-    at_side(Side::Late, i, window, pull)
+    at_side(Side::Late, i, latest, lengths, after, before, valid)
 }

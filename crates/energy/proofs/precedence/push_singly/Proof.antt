@@ -14,7 +14,7 @@ use Rattle.words.specs.Walk.{without-inside, walk-falls}
 use Rattle.board.specs.Paper.Values.{sideOf}
 use Rattle.energy.specs.Energy.{boundAt}
 use Rattle.energy.specs.Laws.{Best, better}
-use Rattle.energy.specs.Precedence.{single}
+use Rattle.energy.specs.Single.{single}
 use Rattle.energy.proofs.precedence.push_singly.Statement.{statement}
 use Rattle.energy.proofs.precedence.push_singly.Tie as tie
 

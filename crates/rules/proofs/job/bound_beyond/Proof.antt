@@ -1,0 +1,116 @@
+-- `rules::job::bound_beyond` meets its contract: no jobs, the last one alone, or all sums. Assumes nothing.
+use mathlib.Core.Path.{refl}
+use lib.IntN.{pos}
+use lib.ListN.{getD}
+use mir.Syntax.{w32}
+use mir.Val.{toZ, ofZ}
+use mir.ValLaws.{toZ-ofZ}
+use Rattle.minutes.specs.Time.{Moderate}
+use Rattle.board.specs.Paper.Values.{sideOf}
+use Rattle.board.specs.Tests.Ranges.{time-moderate}
+use Rattle.energy.specs.Energy.{boundOf}
+use Rattle.energy.specs.Laws.{time-fits}
+use Rattle.rules.specs.BoundBeyond.{none-beyond, last-beyond, sums-beyond}
+use borrow.Author.Needs.{needs}
+use Rattle.rules.proofs.job.bound_beyond.Statement.{statement}
+use Rattle.rules.proofs.job.bound_beyond.Tie as tie
+
+-- from the test of the others to the entry
+abbrev start-of : tie.After-others-beyond → tie.Start
+start-of c = c .before .before .before .before .before .before
+
+-- the job's own bound as a floor
+floor-moderate : (start : tie.Start) → Moderate (toZ w32 (ofZ w32 (getD (start .args .times .now) (start .args .job) (pos 0))))
+floor-moderate start =
+    let t = start .pre .1 .time (start .args .job) in
+    simp (toZ-ofZ, time-fits t) (time-moderate t)
+
+mul-intersection : tie.Need-mul-intersection
+mul-intersection c = search needs
+
+element-copy-out-intersection : tie.Need-element-copy-out-intersection
+element-copy-out-intersection c = search needs
+
+intersection-requires : tie.Need-intersection-requires
+intersection-requires c κs = search needs
+
+returns : tie.Need-returns
+returns c = none-beyond _ _ _ _ _ _ _ (c .before .intersection .ensures) (c .if1 .taken)
+
+last-requires : tie.Need-last-requires
+last-requires c κs = search needs
+
+mul-others-beyond : tie.Need-mul-others-beyond
+mul-others-beyond c = search needs
+
+element-copy-out-others-beyond : tie.Need-element-copy-out-others-beyond
+element-copy-out-others-beyond c = search needs
+
+others-beyond-requires : tie.Need-others-beyond-requires
+others-beyond-requires c κs = search needs
+
+mul-single-bound : tie.Need-mul-single-bound
+mul-single-bound c = search needs
+
+element-copy-out-single-bound : tie.Need-element-copy-out-single-bound
+element-copy-out-single-bound c = search needs
+
+single-bound-requires : tie.Need-single-bound-requires
+single-bound-requires c κs =
+    let start = start-of (c .before .before) in
+    let (_, hours, work) = start .pre in
+    (hours, work, c .before .before .before .before .last .ensures .0, floor-moderate start)
+
+returns-2 : tie.Need-returns-2
+returns-2 c =
+    let tested = c .before .before .before in
+    let start = start-of tested in
+    let found = tested .before .before .last in
+    let met = tested .before .before .before .before .intersection .ensures in
+    let a = start .args in
+    let others = (rw (c .before .before .if2 .taken) at (tested .others-beyond .ensures)) .yes refl in
+    let told = simp (toZ-ofZ, time-fits (start .pre .1 .time (a .job))) at (c .single-bound .ensures) in
+    rw told
+    (last-beyond (sideOf (a .side)) (a .times .now) (a .lengths .now) (a .beyond .now) (a .valid) (a .job) _ met (found .result) (found .ensures .0) (found .ensures .1) others)
+
+mul-energy-bound : tie.Need-mul-energy-bound
+mul-energy-bound c = search needs
+
+element-copy-out-energy-bound : tie.Need-element-copy-out-energy-bound
+element-copy-out-energy-bound c = search needs
+
+energy-bound-requires : tie.Need-energy-bound-requires
+energy-bound-requires c κs =
+    let start = start-of (c .before .before) in
+    let (_, hours, work) = start .pre in
+    (hours, work, floor-moderate start)
+
+returns-3 : tie.Need-returns-3
+returns-3 c =
+    let tested = c .before .before .before in
+    let start = start-of tested in
+    let met = tested .before .before .before .before .intersection .ensures in
+    let a = start .args in
+    let told = simp (toZ-ofZ, time-fits (start .pre .1 .time (a .job))) at (c .energy-bound .ensures) in
+    sums-beyond (sideOf (a .side)) (a .times .now) (a .lengths .now) (a .beyond .now) (a .valid) (a .job) _ met (boundOf (sideOf (a .side)) (c .energy-bound .result)) told
+
+pub bound-beyond-spec : {M : Type 1} → statement M
+bound-beyond-spec =
+    tie.close
+    (tie.spec
+    mul-intersection
+    element-copy-out-intersection
+    intersection-requires
+    returns
+    last-requires
+    mul-others-beyond
+    element-copy-out-others-beyond
+    others-beyond-requires
+    mul-single-bound
+    element-copy-out-single-bound
+    single-bound-requires
+    returns-2
+    mul-energy-bound
+    element-copy-out-energy-bound
+    energy-bound-requires
+    returns-3)
