@@ -6,44 +6,56 @@ use rules::Found;
 use rules::job::at_job;
 use rules::pair::at_pair;
 use rules::pair::is_late;
-ghost use mathlib.Core.Path.{_≡_};
-ghost use Prim.Native.Nat.{_<_};
 ghost use Rattle.board.specs.Paper.View.{view};
-ghost use Rattle.board.specs.Paper.Limits.{jobLimit, Within};
+ghost use Rattle.board.specs.Paper.Limits.{Within};
 ghost use Rattle.board.specs.Inference.Infers.{Obeys};
-ghost use Rattle.rules.specs.Searched.{Searched, PairsObey, JobsObey};
+ghost use Rattle.energy.specs.Energy.{Times, Lengths};
+ghost use Rattle.rules.specs.Searched.{Searched};
 ghost use Rattle.rules.specs.Values.{inferredOf};
-ghost use Rattle.search.specs.PairsWalk.{paired};
+ghost use Rattle.search.specs.Settled.{PairsSettled};
+ghost use Rattle.search.specs.PairsWalk.{ReadSearched, JobsSettled};
 
-// The jobs to pair with i: a pair with an arc to i alone needs no search.
-fn partners(i: usize, live: u64, before: u64, after: u64) -> u64
-    requires { ⌜ i < jobLimit ⌝ }
-    ensures { λ r. ⌜ r ≡ paired live i before after ⌝ }
-{
-    words::difference(words::without(live, i), words::difference(before, after))
-}
+pub mod partners;
 
 // What R1, R2 and R3 infer, row by row of the pairs.
-fn at_pairs(b: Board) -> Found
-    requires { ⌜ Within b ⌝ }
-    ensures { λ r. ⌜ Searched (view b) (PairsObey (view b)) (inferredOf r) ⌝ }
+fn at_pairs<'a>(
+    live: u64,
+    valid: u64,
+    earliest: &'a [i32; Board::JOBS],
+    latest: &'a [i32; Board::JOBS],
+    lengths: &'a [i32; Board::JOBS],
+    before: &'a [u64; Board::JOBS],
+    after: &'a [u64; Board::JOBS],
+) -> Found
+    requires { ⌜ Times (now earliest) × Times (now latest) × Lengths (now lengths) ⌝ }
+    ensures { λ r. ⌜ ReadSearched PairsSettled live valid (now (earliest .entry)) (now (latest .entry)) (now (lengths .entry)) (now (before .entry)) (now (after .entry)) (inferredOf r) ⌝ }
 {
-    let valid = marked(b.jobs, &b.marks, Board::VALID);
-    let live = live(b.jobs, &b.marks);
+    let least = partners::latest_start(live, latest, lengths);
     let mut found = Found::Nothing;
     let mut rows = live;
     'pairs: while rows != 0 {
         let i = words::lowest(rows);
         rows = words::without(rows, i);
-        let after = b.after[i];
-        let before = b.before[i];
-        let end = minutes::sum(b.earliest[i], b.lengths[i]);
-        let mut others = partners(i, live, before, after);
+        let end = minutes::sum(earliest[i], lengths[i]);
+        let into = before[i];
+        let out = after[i];
+        let mut others = partners::partners(
+            i,
+            live,
+            valid,
+            into,
+            out,
+            end,
+            least,
+            latest,
+            lengths,
+            after,
+        );
         while others != 0 {
             let k = words::lowest(others);
             others = words::without(others, k);
-            let late = is_late(end, b.lengths[k], b.latest[k]);
-            let pair = at_pair(i, k, valid, after, before, b.after[k], late);
+            let late = is_late(end, lengths[k], latest[k]);
+            let pair = at_pair(i, k, valid, out, into, after[k], late);
             if let Found::Inferred(fact) = pair {
                 found = Found::Inferred(fact);
                 break 'pairs;
@@ -54,18 +66,23 @@ fn at_pairs(b: Board) -> Found
 }
 
 // What R4, R5 and R6 infer, job by job.
-fn at_jobs(b: Board) -> Found
-    requires { ⌜ Within b ⌝ }
-    ensures { λ r. ⌜ Searched (view b) (JobsObey (view b)) (inferredOf r) ⌝ }
+fn at_jobs<'a>(
+    live: u64,
+    valid: u64,
+    earliest: &'a [i32; Board::JOBS],
+    latest: &'a [i32; Board::JOBS],
+    lengths: &'a [i32; Board::JOBS],
+    before: &'a [u64; Board::JOBS],
+    after: &'a [u64; Board::JOBS],
+) -> Found
+    requires { ⌜ Times (now earliest) × Times (now latest) × Lengths (now lengths) ⌝ }
+    ensures { λ r. ⌜ ReadSearched JobsSettled live valid (now (earliest .entry)) (now (latest .entry)) (now (lengths .entry)) (now (before .entry)) (now (after .entry)) (inferredOf r) ⌝ }
 {
-    let valid = marked(b.jobs, &b.marks, Board::VALID);
-    let mut left = live(b.jobs, &b.marks);
+    let mut left = live;
     while left != 0 {
         let i = words::lowest(left);
         left = words::without(left, i);
-        let before = b.before[i];
-        let after = b.after[i];
-        let single = at_job(i, &b.earliest, &b.latest, &b.lengths, valid, before, after);
+        let single = at_job(i, earliest, latest, lengths, before, after, valid);
         if let Found::Inferred(fact) = single {
             return Found::Inferred(fact);
         }
@@ -78,9 +95,27 @@ pub fn find(b: Board) -> Found
     requires { ⌜ Within b ⌝ }
     ensures { λ r. ⌜ Searched (view b) (Obeys (view b)) (inferredOf r) ⌝ }
 {
-    let pairs = at_pairs(b);
+    let live = live(b.jobs, &b.marks);
+    let valid = marked(b.jobs, &b.marks, Board::VALID);
+    let pairs = at_pairs(
+        live,
+        valid,
+        &b.earliest,
+        &b.latest,
+        &b.lengths,
+        &b.before,
+        &b.after,
+    );
     if let Found::Inferred(fact) = pairs {
         return Found::Inferred(fact);
     }
-    at_jobs(b)
+    at_jobs(
+        live,
+        valid,
+        &b.earliest,
+        &b.latest,
+        &b.lengths,
+        &b.before,
+        &b.after,
+    )
 }

@@ -1,70 +1,92 @@
--- `search::at_pairs` meets its contract: where the pairs of a row have been searched without a finding, nothing is left to infer
--- there; the rows and the pairs that are left are words, which get smaller. Assumes nothing.
-use mathlib.Core.Path.{_≡_, refl, ap, _∙_, subst, subst⁻¹}
-use Prim.Native.Nat.{ℕ}
-use native.Mathlib.Omega.{arith}
+-- `search::at_pairs` meets its contract, for any board that the arrays are read from: in the walk over rows, and in a row over its
+-- partners, nothing is left to infer at those passed. The words of what is left get smaller. Assumes nothing.
+use mathlib.Core.Path.{_≡_, refl, ap, _∙_, subst}
+use Prim.Native.Nat.{_<_, _^_}
+use lib.IntN.{pos, _+ℤ_}
 use lib.ListN.{getD}
 use mir.Syntax.{w32}
 use mir.Val.{toZ, ofZ}
 use mir.ValLaws.{toZ-ofZ}
-use Rattle.words.specs.Bit.{bit}
+use Rattle.words.specs.BitLaws.{without-lt}
 use Rattle.words.specs.Walk.{walk-falls, visited, none-left}
+use Rattle.minutes.specs.Time.{Moderate}
+use Rattle.board.specs.declared.Board.{Board}
 use Rattle.board.specs.Paper.Limits.{jobLimit}
-use Rattle.board.specs.Paper.View.{view}
-use Rattle.board.specs.Tests.Live.{live, valid}
-use Rattle.board.specs.Tests.Ranges.{ranges, time-moderate, length-moderate, end-moderate}
+use Rattle.board.specs.Paper.View.{early, view}
+use Rattle.board.specs.Tests.Ranges.{time-moderate}
+use Rattle.energy.specs.Laws.{time-fits, length-fits, length-moderate, end-moderate}
 use Rattle.rules.specs.declared.Found.the-variants.{Nothing}
 use Rattle.rules.specs.Values.{inferredOf}
-use Rattle.limits.specs.Marked.{bit-valid, bit-live}
-use Rattle.energy.specs.Laws.{time-fits, length-fits}
-use Rattle.energy.specs.Exact.{lengths-within}
 use Rattle.rules.specs.Searched.{Searched, PairObeys}
-use Rattle.search.specs.PairsWalk.{RowsLeft, PairsLeft, InRow, all-left, pairs-left, pair-read, row-done}
+use Rattle.search.specs.Rows.{RowRead, pair-read}
+use Rattle.search.specs.Settled.{PairsLeft, obeys-settled}
+use Rattle.search.specs.PairsWalk.{Read, RowsLeft, all-left, row-read}
 use borrow.Author.Needs.{needs}
 use Rattle.search.proofs.at_pairs.Statement.{statement}
 use Rattle.search.proofs.at_pairs.Tie as tie
 
 abbrev Inv-loop : tie.InvT-loop
-Inv-loop b valid live found₀ rows i after before end others₀ found others =
-    (found ≡ Nothing) × InRow b valid rows i after before (toZ w32 end) × PairsLeft (view b) i others
+Inv-loop live valid earliest latest lengths before after least found₀ rows i end into out others₀ found others =
+    (found ≡ Nothing) × (others < 2 ^ jobLimit) × ((b : Board) → Read b live valid earliest latest lengths before after → PairsLeft (view b) i others)
 
 abbrev μ-loop : tie.MeasureT-loop
-μ-loop b valid live found₀ rows i after before end others₀ found others = others
+μ-loop live valid earliest latest lengths before after least found₀ rows i end into out others₀ found others = others
 
 abbrev Inv-pairs : tie.InvT-pairs
-Inv-pairs b valid live found₀ rows₀ found rows = (found ≡ Nothing) × RowsLeft (view b) rows
+Inv-pairs live valid earliest latest lengths before after least found₀ rows₀ found rows =
+    (found ≡ Nothing) × (rows < 2 ^ jobLimit) × ((b : Board) → Read b live valid earliest latest lengths before after → RowsLeft (view b) rows)
 
 abbrev μ-pairs : tie.MeasureT-pairs
-μ-pairs b valid live found₀ rows₀ found rows = rows
+μ-pairs live valid earliest latest lengths before after least found₀ rows₀ found rows = rows
 
--- from a place of the code to those before it: the entry, the head of the walk over rows, and the row
+-- from a place of the code to those before it: the entry, the head of the walk over rows, the row, and its end
 abbrev start-of : tie.At-pairs Inv-loop μ-loop Inv-pairs μ-pairs → tie.Start Inv-loop μ-loop Inv-pairs μ-pairs
-start-of c = c .before .before .before .before .before .before .before
+start-of c = c .before .before
 
 abbrev walk-of : tie.After-without Inv-loop μ-loop Inv-pairs μ-pairs → tie.At-pairs Inv-loop μ-loop Inv-pairs μ-pairs
 walk-of c = c .before .before .before
 
-abbrev row-of : tie.At-loop Inv-loop μ-loop Inv-pairs μ-pairs → tie.After-without Inv-loop μ-loop Inv-pairs μ-pairs
-row-of c = c .before .before .before .before .before .before .before
+abbrev row-of : tie.After-sum Inv-loop μ-loop Inv-pairs μ-pairs → tie.After-without Inv-loop μ-loop Inv-pairs μ-pairs
+row-of c = c .before .before .before
 
--- the words of the live jobs and of the valid ones
-lives-are : (c : tie.At-pairs Inv-loop μ-loop Inv-pairs μ-pairs) (x : ℕ) → bit (c .before .live .result) x ≡ live (view (start-of c .args .t1)) x
-lives-are c x = ap (λ w. bit w x) (c .before .live .ensures) ∙ bit-live (start-of c .args .t1) x
+abbrev end-of : tie.At-loop Inv-loop μ-loop Inv-pairs μ-pairs → tie.After-sum Inv-loop μ-loop Inv-pairs μ-pairs
+end-of c = c .before .before .before .before
 
-valids-are : (c : tie.At-pairs Inv-loop μ-loop Inv-pairs μ-pairs) (x : ℕ) → bit (c .before .before .before .before .marked .result) x ≡ valid (view (start-of c .args .t1)) x
-valids-are c x = ap (λ w. bit w x) (c .before .before .before .before .marked .ensures) ∙ bit-valid (start-of c .args .t1) x
+-- what the arrays at the entry are read from
+abbrev ReadAt : tie.Start Inv-loop μ-loop Inv-pairs μ-pairs → Board → Type 0
+ReadAt s b =
+    let a = s .args in
+    Read b (a .live) (a .valid) (a .earliest .now) (a .latest .now) (a .lengths .now) (a .before .now) (a .after .now)
 
-marked-requires : tie.Need-marked-requires Inv-loop μ-loop Inv-pairs μ-pairs
-marked-requires c κs = search needs
+-- the end of the row's job, as the machine reads it back from its bits
+end-is : (c : tie.After-sum Inv-loop μ-loop Inv-pairs μ-pairs)
+    → let a = start-of (walk-of (row-of c)) .args in
+    let i = row-of c .before .lowest .result in
+    toZ w32 (ofZ w32 (c .sum .result)) ≡ getD (a .earliest .now) i (pos 0) +ℤ getD (a .lengths .now) i (pos 0)
+end-is c =
+    let (starts, _, work) = start-of (walk-of (row-of c)) .pre in
+    let i = row-of c .before .lowest .result in
+    toZ-ofZ w32 _ (record { sfits = c .sum .ok }) ∙ simp (toZ-ofZ, time-fits (starts .time i), length-fits work i) at (c .sum .ensures)
 
-live-requires : tie.Need-live-requires Inv-loop μ-loop Inv-pairs μ-pairs
-live-requires c κs = search needs
+end-bounded : (c : tie.After-sum Inv-loop μ-loop Inv-pairs μ-pairs) → Moderate (toZ w32 (ofZ w32 (c .sum .result)))
+end-bounded c =
+    let (starts, _, work) = start-of (walk-of (row-of c)) .pre in
+    rw (end-is c) (end-moderate early starts work (row-of c .before .lowest .result))
+
+row-reads : (c : tie.After-sum Inv-loop μ-loop Inv-pairs μ-pairs) (b : Board)
+    → let a = start-of (walk-of (row-of c)) .args in
+    let i = row-of c .before .lowest .result in
+    ReadAt (start-of (walk-of (row-of c))) b
+    → RowRead b i (a .live) (a .valid) (getD (a .before .now) i 0) (getD (a .after .now) i 0) (toZ w32 (ofZ w32 (c .sum .result))) (a .latest .now) (a .lengths .now) (a .after .now)
+row-reads c b h =
+    let low = row-of c .before .lowest in
+    row-read h (low .result) (walk-of (row-of c) .pairs .inv .2 b h .member (low .result) (low .ensures .member)) _ (end-is c)
+
+latest-start-requires : tie.Need-latest-start-requires Inv-loop μ-loop Inv-pairs μ-pairs
+latest-start-requires c κs = search needs
 
 pairs-holds : tie.Need-pairs-holds Inv-loop μ-loop Inv-pairs μ-pairs
-pairs-holds c =
-    let start = c .before .before .before .before .before .before in
-    let b = start .args .t1 in
-    (refl, all-left b (start .pre) (c .live .result) (c .live .ok) (λ x. ap (λ w. bit w x) (c .live .ensures) ∙ bit-live b x) _)
+pairs-holds c = (refl, c .before .fits .live .fits, λ b h. all-left h (c .before .fits .live .fits) _)
 
 lowest-requires : tie.Need-lowest-requires Inv-loop μ-loop Inv-pairs μ-pairs
 lowest-requires c κs = search needs
@@ -72,81 +94,68 @@ lowest-requires c κs = search needs
 without-requires : tie.Need-without-requires Inv-loop μ-loop Inv-pairs μ-pairs
 without-requires c κs = search needs
 
-mul-after : tie.Need-mul-after Inv-loop μ-loop Inv-pairs μ-pairs
-mul-after c = let index = c .before .lowest .ensures .width in record { fits = omega (arith, index) }
-
-element-copy-out-after : tie.Need-element-copy-out-after Inv-loop μ-loop Inv-pairs μ-pairs
-element-copy-out-after c = c .before .lowest .ensures .width
-
-mul-before : tie.Need-mul-before Inv-loop μ-loop Inv-pairs μ-pairs
-mul-before c = let index = c .before .before .lowest .ensures .width in record { fits = omega (arith, index) }
-
-element-copy-out-before : tie.Need-element-copy-out-before Inv-loop μ-loop Inv-pairs μ-pairs
-element-copy-out-before c = c .before .before .lowest .ensures .width
-
 mul-sum : tie.Need-mul-sum Inv-loop μ-loop Inv-pairs μ-pairs
-mul-sum c = let index = c .before .before .before .lowest .ensures .width in record { fits = omega (arith, index) }
+mul-sum c = search needs
 
 element-copy-out-sum : tie.Need-element-copy-out-sum Inv-loop μ-loop Inv-pairs μ-pairs
-element-copy-out-sum c = c .before .before .before .lowest .ensures .width
+element-copy-out-sum c = search needs
 
 mul-sum-2 : tie.Need-mul-sum-2 Inv-loop μ-loop Inv-pairs μ-pairs
-mul-sum-2 c = let index = c .before .before .before .before .lowest .ensures .width in record { fits = omega (arith, index) }
+mul-sum-2 c = search needs
 
 element-copy-out-sum-2 : tie.Need-element-copy-out-sum-2 Inv-loop μ-loop Inv-pairs μ-pairs
-element-copy-out-sum-2 c = c .before .before .before .before .lowest .ensures .width
+element-copy-out-sum-2 c = search needs
 
 sum-requires : tie.Need-sum-requires Inv-loop μ-loop Inv-pairs μ-pairs
 sum-requires c κs =
-    let row = c .before .before .before .before in
-    let start = start-of (walk-of row) in
-    let b = start .args .t1 in
+    let row = c .before .before in
+    let (starts, _, work) = start-of (walk-of row) .pre in
     let i = row .before .lowest .result in
-    let r = ranges b (start .pre) i in
-    simp (toZ-ofZ, time-fits (r .earliest), length-fits (lengths-within b (start .pre)) i) (time-moderate (r .earliest), length-moderate r)
+    simp (toZ-ofZ, time-fits (starts .time i), length-fits work i) (time-moderate (starts .time i), length-moderate work i)
+
+mul-into : tie.Need-mul-into Inv-loop μ-loop Inv-pairs μ-pairs
+mul-into c = search needs
+
+element-copy-out-into : tie.Need-element-copy-out-into Inv-loop μ-loop Inv-pairs μ-pairs
+element-copy-out-into c = search needs
+
+mul-out : tie.Need-mul-out Inv-loop μ-loop Inv-pairs μ-pairs
+mul-out c = search needs
+
+element-copy-out-out : tie.Need-element-copy-out-out Inv-loop μ-loop Inv-pairs μ-pairs
+element-copy-out-out c = search needs
 
 partners-requires : tie.Need-partners-requires Inv-loop μ-loop Inv-pairs μ-pairs
-partners-requires c κs = search needs
+partners-requires c κs =
+    let row = row-of (c .before .before) in
+    let walk = walk-of row in
+    let (_, ends, work) = start-of walk .pre in
+    let least = walk .before .latest-start in
+    (row .before .lowest .ensures .width, end-bounded (c .before .before), ends, work, rw (toZ-ofZ w32 _ (record { sfits = least .ok })) (least .ensures))
 
 loop-holds : tie.Need-loop-holds Inv-loop μ-loop Inv-pairs μ-pairs
 loop-holds c =
-    let row = c .before .before .before .before .before .before in
-    let walk = walk-of row in
-    let start = start-of walk in
-    let b = start .args .t1 in
-    let h = start .pre in
-    let old = walk .pairs in
-    let low = row .before .lowest in
-    let i = low .result in
-    let lives = walk .before .live in
-    let valids = walk .before .before .before .before .marked in
-    let r = ranges b h i in
-    let end = c .before .sum in
-    let in-row : InRow b (valids .result) (row .without .result) i (getD (b .after) i 0) (getD (b .before) i 0) (toZ w32 (ofZ w32 (end .result))) =
-    record {
-      live = old .inv .1 .member i (low .ensures .member);
-      onward = λ obeyed. subst⁻¹ (RowsLeft (view b)) (row .without .ensures) (visited jobLimit _ _ (old .rows) i (old .inv .1) (low .ensures) obeyed);
-      is-valid = valids-are walk;
-      is-after = refl;
-      is-before = refl;
-      is-end =
-          toZ-ofZ w32 (end .result) (record { sfits = end .ok })
-          ∙ simp (toZ-ofZ, time-fits (r .earliest), length-fits (lengths-within b h) i) at (end .ensures);
-    }
-    in
-    (old .inv .0, in-row, rw (c .partners .ensures) (pairs-left b h (lives .result) (lives .ok) (lives-are walk) i (low .ensures .width)))
+    let row = row-of (c .before .before .before) in
+    (walk-of row .pairs .inv .0, c .partners .ok, λ b h. c .partners .ensures b (row-reads (c .before .before .before) b h))
 
 pairs-less : tie.Need-pairs-less Inv-loop μ-loop Inv-pairs μ-pairs
 pairs-less c =
-    let row = row-of (c .before) in
-    walk-falls (walk-of row .pairs .inv .1 .width) (row .before .lowest .ensures) (row .without .ensures)
+    let row = row-of (end-of (c .before)) in
+    walk-falls (walk-of row .pairs .inv .1) (row .before .lowest .ensures) (row .without .ensures)
 
 pairs-again : tie.Need-pairs-again Inv-loop μ-loop Inv-pairs μ-pairs
 pairs-again c =
+    let row = row-of (end-of (c .before)) in
+    let old = walk-of row .pairs in
+    let low = row .before .lowest in
+    let i = low .result in
     let inv = c .before .loop .inv in
-    let row = row-of (c .before) in
-    let b = start-of (walk-of row) .args .t1 in
-    (inv .0, row-done _ _ _ _ _ _ _ (inv .1) (subst (PairsLeft (view b) (row .before .lowest .result)) (c .loop-test .left) (inv .2)))
+    rw (row .without .ensures) (
+      inv .0,
+      without-lt jobLimit (old .rows) i (old .inv .1),
+      λ b h. visited jobLimit _ _ (old .rows) i (old .inv .2 b h) (low .ensures)
+          (none-left jobLimit _ _ (subst (PairsLeft (view b) i) (c .loop-test .left) (inv .2 b h))),
+    )
 
 lowest-requires-2 : tie.Need-lowest-requires-2 Inv-loop μ-loop Inv-pairs μ-pairs
 lowest-requires-2 c κs = search needs
@@ -155,38 +164,48 @@ without-requires-2 : tie.Need-without-requires-2 Inv-loop μ-loop Inv-pairs μ-p
 without-requires-2 c κs = search needs
 
 mul-is-late : tie.Need-mul-is-late Inv-loop μ-loop Inv-pairs μ-pairs
-mul-is-late c = let index = c .before .lowest2 .ensures .width in record { fits = omega (arith, index) }
+mul-is-late c = search needs
 
 element-copy-out-is-late : tie.Need-element-copy-out-is-late Inv-loop μ-loop Inv-pairs μ-pairs
-element-copy-out-is-late c = c .before .lowest2 .ensures .width
+element-copy-out-is-late c = search needs
 
 mul-is-late-2 : tie.Need-mul-is-late-2 Inv-loop μ-loop Inv-pairs μ-pairs
-mul-is-late-2 c = let index = c .before .before .lowest2 .ensures .width in record { fits = omega (arith, index) }
+mul-is-late-2 c = search needs
 
 element-copy-out-is-late-2 : tie.Need-element-copy-out-is-late-2 Inv-loop μ-loop Inv-pairs μ-pairs
-element-copy-out-is-late-2 c = c .before .before .lowest2 .ensures .width
+element-copy-out-is-late-2 c = search needs
 
 is-late-requires : tie.Need-is-late-requires Inv-loop μ-loop Inv-pairs μ-pairs
 is-late-requires c κs =
-    let at = c .before .before .before .before .before in
-    let row = row-of at in
-    let start = start-of (walk-of row) in
-    let b = start .args .t1 in
-    let h = start .pre in
-    let k = c .before .before .before .lowest2 .result in (
-      rw (at .loop .inv .1 .is-end) (end-moderate (ranges b h (row .before .lowest .result))),
-      simp (toZ-ofZ, length-fits (lengths-within b h) k) (length-moderate (ranges b h k)),
-    )
+    let low = c .before .before .before in
+    let at = low .before .before in
+    let (_, _, work) = start-of (walk-of (row-of (end-of at))) .pre in
+    let k = low .lowest2 .result in
+    (end-bounded (end-of at), simp (toZ-ofZ, length-fits work k) (length-moderate work k))
 
 mul-at-pair : tie.Need-mul-at-pair Inv-loop μ-loop Inv-pairs μ-pairs
-mul-at-pair c = let index = c .before .before .before .before .lowest2 .ensures .width in record { fits = omega (arith, index) }
+mul-at-pair c = search needs
 
 element-copy-out-at-pair : tie.Need-element-copy-out-at-pair Inv-loop μ-loop Inv-pairs μ-pairs
-element-copy-out-at-pair c = c .before .before .before .before .lowest2 .ensures .width
+element-copy-out-at-pair c = search needs
 
 at-pair-requires : tie.Need-at-pair-requires Inv-loop μ-loop Inv-pairs μ-pairs
 at-pair-requires c κs =
-    (row-of (c .before .before .before .before .before .before .before) .before .lowest .ensures .width, c .before .before .before .before .before .lowest2 .ensures .width)
+    let low = c .before .before .before .before .before in
+    (row-of (end-of (low .before .before)) .before .lowest .ensures .width, low .lowest2 .ensures .width)
+
+-- what the search at a pair says of the board
+pair-searched : (c : tie.After-at-pair Inv-loop μ-loop Inv-pairs μ-pairs) (b : Board)
+    → let low = c .before .before .before .before .before .before in
+    let row = row-of (end-of (low .before .before)) in
+    ReadAt (start-of (walk-of row)) b → Searched (view b) (PairObeys (view b) (row .before .lowest .result) (low .lowest2 .result)) (inferredOf (c .at-pair .result))
+pair-searched c b h =
+    let low = c .before .before .before .before .before .before in
+    let at = low .before .before in
+    let (_, ends, work) = start-of (walk-of (row-of (end-of at))) .pre in
+    let k = low .lowest2 .result in
+    let test = simp (toZ-ofZ, length-fits work k, time-fits (ends .time k)) at (c .before .before .is-late .ensures) in
+    c .at-pair .ensures (view b) (pair-read (row-reads (end-of at) b h) k (at .loop .inv .2 b h .member k (low .lowest2 .ensures .member)) (c .before .before .is-late .result) test)
 
 enum-known-pair : tie.Need-enum-known-pair Inv-loop μ-loop Inv-pairs μ-pairs
 enum-known-pair c = search needs
@@ -194,47 +213,31 @@ enum-known-pair c = search needs
 enum-told : tie.Need-enum-told Inv-loop μ-loop Inv-pairs μ-pairs
 enum-told c = search needs
 
--- what the search at a pair says of the board
-pair-searched : (c : tie.After-at-pair Inv-loop μ-loop Inv-pairs μ-pairs)
-    → let row = row-of (c .before .before .before .before .before .before .before .before) in
-    let v = view (start-of (walk-of row) .args .t1) in
-    Searched v (PairObeys v (row .before .lowest .result) (c .before .before .before .before .before .before .lowest2 .result)) (inferredOf (c .at-pair .result))
-pair-searched c =
-    let at = c .before .before .before .before .before .before .before .before in
-    let start = start-of (walk-of (row-of at)) in
-    let b = start .args .t1 in
-    let h = start .pre in
-    let low = c .before .before .before .before .before .before .lowest2 in
-    let k = low .result in
-    let test = c .before .before .is-late in
-    let is-late = simp (toZ-ofZ, length-fits (lengths-within b h) k, time-fits (ranges b h k .latest)) at (test .ensures) in
-    let member = at .loop .inv .2 .member k (low .ensures .member) in
-    c .at-pair .ensures (view b) (pair-read b h _ _ _ _ _ _ (at .loop .inv .1) k member (test .result) is-late)
-
 loop-less : tie.Need-loop-less Inv-loop μ-loop Inv-pairs μ-pairs
 loop-less c =
     let next = c .before .before .before .before .before .before .before in
-    walk-falls (next .before .before .before .loop .inv .2 .width) (next .before .lowest2 .ensures) (next .without2 .ensures)
+    walk-falls (next .before .before .before .loop .inv .1) (next .before .lowest2 .ensures) (next .without2 .ensures)
 
 loop-again : tie.Need-loop-again Inv-loop μ-loop Inv-pairs μ-pairs
 loop-again c =
-    let loop = c .before .before .before .before .before .before .before .before .before .before .loop in
-    let low = c .before .before .before .before .before .before .before .before .lowest2 in
+    let next = c .before .before .before .before .before .before .before in
+    let loop = next .before .before .before .loop in
+    let low = next .before .lowest2 in
     let none = ap inferredOf (c .enum-told .given .1) in
-    let obeyed = rw none at (pair-searched (c .before .before)) in (
+    rw (next .without2 .ensures) (
       loop .inv .0,
-      loop .inv .1,
-      rw (c .before .before .before .before .before .before .before .without2 .ensures) (visited jobLimit _ _ (loop .others) (low .result) (loop .inv .2) (low .ensures) obeyed),
+      without-lt jobLimit (loop .others) (low .result) (loop .inv .1),
+      λ b h. visited jobLimit _ _ (loop .others) (low .result) (loop .inv .2 b h) (low .ensures)
+          (obeys-settled (view b) _ _ (rw none at (pair-searched (c .before .before) b h))),
     )
 
 returns : tie.Need-returns Inv-loop μ-loop Inv-pairs μ-pairs
-returns c =
-    let v = view (start-of (c .before) .args .t1) in
+returns c b h =
     let inv = c .before .pairs .inv in
-    rw (inv .0) (none-left jobLimit _ _ (subst (RowsLeft v) (c .pairs-test .left) (inv .1)))
+    rw (inv .0) (none-left jobLimit _ _ (subst (RowsLeft (view b)) (c .pairs-test .left) (inv .2 b h)))
 
 returns-2 : tie.Need-returns-2 Inv-loop μ-loop Inv-pairs μ-pairs
-returns-2 c = rw (ap inferredOf (c .before .pair .given .1)) at (pair-searched (c .before .before .before))
+returns-2 c b h = rw (ap inferredOf (c .before .pair .given .1)) at (pair-searched (c .before .before .before) b h)
 
 pub at-pairs-spec : {M : Type 1} → statement M
 at-pairs-spec =
@@ -244,20 +247,19 @@ at-pairs-spec =
     μ-loop
     Inv-pairs
     μ-pairs
-    marked-requires
-    live-requires
+    latest-start-requires
     pairs-holds
     lowest-requires
     without-requires
-    mul-after
-    element-copy-out-after
-    mul-before
-    element-copy-out-before
     mul-sum
     element-copy-out-sum
     mul-sum-2
     element-copy-out-sum-2
     sum-requires
+    mul-into
+    element-copy-out-into
+    mul-out
+    element-copy-out-out
     partners-requires
     loop-holds
     pairs-less

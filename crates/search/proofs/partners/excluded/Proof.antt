@@ -1,0 +1,26 @@
+-- `search::partners::excluded` meets its contract, member by member. Assumes nothing.
+use mathlib.Core.Path.{sym, ap, _∙_}
+use mathlib.Core.Bool.{and-true, and-false}
+use Rattle.words.specs.Bit.{bit}
+use Rattle.words.specs.BitLaws.{bit-zero, bit-intersection}
+use borrow.Author.Needs.{needs}
+use Rattle.search.proofs.partners.excluded.Statement.{statement}
+use Rattle.search.proofs.partners.excluded.Tie as tie
+
+has-requires : tie.Need-has-requires
+has-requires c κs = search needs
+
+intersection-requires : tie.Need-intersection-requires
+intersection-requires c κs = search needs
+
+returns : tie.Need-returns
+returns c = λ k.
+    let a = c .before .before .before .args in
+    let valid = sym (c .before .before .has .ensures) ∙ c .before .if1 .taken in
+    rw (valid, and-true) (ap (λ w. bit w k) (c .intersection .ensures) ∙ bit-intersection (a .after) (a .before) k)
+
+returns-2 : tie.Need-returns-2
+returns-2 c = λ k. rw (sym (c .before .has .ensures) ∙ c .if1 .left, and-false) (bit-zero k)
+
+pub excluded-spec : {M : Type 1} → statement M
+excluded-spec = tie.close (tie.spec has-requires intersection-requires returns returns-2)

@@ -1,0 +1,44 @@
+-- `search::partners::joined` meets its contract: nothing is missing, or all are left. Assumes nothing.
+use Rattle.search.specs.Partners.{none-joined, all-joined}
+use borrow.Author.Needs.{needs}
+use Rattle.search.proofs.partners.joined.Statement.{statement}
+use Rattle.search.proofs.partners.joined.Tie as tie
+
+intersection-requires : tie.Need-intersection-requires
+intersection-requires c κs = search needs
+
+reach-requires : tie.Need-reach-requires
+reach-requires c κs = search needs
+
+without-requires : tie.Need-without-requires
+without-requires c κs = search needs
+
+difference-requires : tie.Need-difference-requires
+difference-requires c κs = search needs
+
+returns : tie.Need-returns
+returns c =
+    let reached = c .before .before .before in
+    let met = reached .before .intersection in
+    let start = reached .before .before in
+    let a = start .args in
+    let empty = rw (c .before .difference .ensures, c .before .before .without .ensures) at (c .if1 .taken) in
+    none-joined (a .afters .now) (a .i) (a .valid) (a .after) (met .result) (met .ensures) (reached .reach .result) (reached .reach .ok) (start .fits .after .fits) (start .pre)
+    (reached .reach .ensures) empty
+
+returns-2 : tie.Need-returns-2
+returns-2 c =
+    let met = c .before .before .before .before .intersection in
+    let a = c .before .before .before .before .before .args in
+    all-joined (a .afters .now) (a .i) (a .valid) (a .after) (met .result) (met .ensures) (met .ok)
+
+pub joined-spec : {M : Type 1} → statement M
+joined-spec =
+    tie.close
+    (tie.spec
+    intersection-requires
+    reach-requires
+    without-requires
+    difference-requires
+    returns
+    returns-2)

@@ -1,0 +1,76 @@
+-- `search::partners::reach` meets its contract. The loop's invariant is `Looked`; the measure is the word of what is left. Assumes
+-- nothing.
+use Rattle.words.specs.BitLaws.{bit-zero}
+use Rattle.search.specs.Partners.{Looked, none-looked, look, look-falls}
+use borrow.Author.Needs.{needs}
+use Rattle.search.proofs.partners.reach.Statement.{statement}
+use Rattle.search.proofs.partners.reach.Tie as tie
+
+abbrev Inv-loop : tie.InvT-loop
+Inv-loop set after all₀ left₀ all left = Looked after set left all
+
+abbrev μ-loop : tie.MeasureT-loop
+μ-loop set after all₀ left₀ all left = left
+
+-- from the union to the job that is looked at
+abbrev low-of : tie.After-union Inv-loop μ-loop → tie.After-lowest Inv-loop μ-loop
+low-of c = c .before .before
+
+loop-holds : tie.Need-loop-holds Inv-loop μ-loop
+loop-holds c = none-looked (c .args .after .now) (c .args .set) (c .fits .set .fits)
+
+lowest-requires : tie.Need-lowest-requires Inv-loop μ-loop
+lowest-requires c κs = search needs
+
+mul-union : tie.Need-mul-union Inv-loop μ-loop
+mul-union c = search needs
+
+element-copy-out-union : tie.Need-element-copy-out-union Inv-loop μ-loop
+element-copy-out-union c = search needs
+
+union-requires : tie.Need-union-requires Inv-loop μ-loop
+union-requires c κs = search needs
+
+without-requires : tie.Need-without-requires Inv-loop μ-loop
+without-requires c κs = search needs
+
+difference-requires : tie.Need-difference-requires Inv-loop μ-loop
+difference-requires c κs = search needs
+
+loop-less : tie.Need-loop-less Inv-loop μ-loop
+loop-less c =
+    let low = low-of (c .before .before) in
+    let at = low .before .before in
+    let a = at .before .args in
+    let joined = c .before .before .union in
+    rw (c .difference .ensures, c .before .without .ensures, joined .ensures)
+    (look-falls (a .after .now) (a .set) (at .loop .left) (at .loop .all) (low .lowest .result) (at .loop .inv) (low .lowest .ensures) (rw (joined .ensures) at (joined .ok)))
+
+loop-again : tie.Need-loop-again Inv-loop μ-loop
+loop-again c =
+    let low = low-of (c .before .before) in
+    let at = low .before .before in
+    let a = at .before .args in
+    let joined = c .before .before .union in
+    rw (c .difference .ensures, c .before .without .ensures, joined .ensures)
+    (look (a .after .now) (a .set) (at .loop .left) (at .loop .all) (low .lowest .result) (at .loop .inv) (low .lowest .ensures) (rw (joined .ensures) at (joined .ok)))
+
+returns : tie.Need-returns Inv-loop μ-loop
+returns c = λ x e. c .before .loop .inv .done x e (rw (c .loop-test .left) (bit-zero x))
+
+pub reach-spec : {M : Type 1} → statement M
+reach-spec =
+    tie.close
+    (tie.spec
+    Inv-loop
+    μ-loop
+    loop-holds
+    lowest-requires
+    mul-union
+    element-copy-out-union
+    union-requires
+    without-requires
+    difference-requires
+    loop-less
+    loop-again
+    returns)
