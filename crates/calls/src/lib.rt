@@ -4,6 +4,7 @@ use board::Refusal;
 use board::facts::Fact;
 use board::facts::Side;
 use closure::close::closure;
+use closure::due::concerned;
 use entries::Answer;
 use entries::Entered;
 use equality::same;
@@ -63,8 +64,8 @@ fn impossible(board: Board) -> Entered
     refused(Refusal::Impossible, counted)
 }
 
-// The closure with an entry: `raw` is the board that shows it, nothing inferred yet.
-fn settle(board: Board, raw: Outcome, accepted: Answer) -> Entered
+// The closure with an entry: `raw` is the board that shows it, nothing inferred yet. The jobs that it is about are `due`.
+fn settle(board: Board, raw: Outcome, due: u64, accepted: Answer) -> Entered
     requires { ⌜ (passes board ≡ true) × (raw .possible ≡ true → Within (raw .board)) ⌝ }
     ensures { λ r. ⌜ r ≡ paper.concluded board accepted (outcomeOf raw andThen closing.closure) ⌝ }
 {
@@ -78,7 +79,7 @@ fn settle(board: Board, raw: Outcome, accepted: Answer) -> Entered
             board,
         };
     }
-    let closed = closure(raw.board);
+    let closed = closure(raw.board, due);
     if !closed.possible {
         return impossible(board);
     }
@@ -101,7 +102,12 @@ pub fn addition(board: Board, length: i32, earliest: i32, latest: i32, mark: i32
                 possible: true,
                 board: longer,
             };
-            settle(board, raw, Answer::Added(board.jobs))
+            settle(
+                board,
+                raw,
+                words::with(0, board.jobs),
+                Answer::Added(board.jobs),
+            )
         }
     }
 }
@@ -112,17 +118,18 @@ pub fn arc(board: Board, from: i32, to: i32) -> Entered
 {
     match pair_gate(board.jobs, from, to) {
         Gate::Closed(refusal) => refused(refusal, board),
-        Gate::Open => settle(
-            board,
-            update(
+        Gate::Open => {
+            let fact = Fact::Arc {
+                from: index(from),
+                to: index(to),
+            };
+            settle(
                 board,
-                Fact::Arc {
-                    from: index(from),
-                    to: index(to),
-                },
-            ),
-            Answer::Accepted,
-        ),
+                update(board, fact),
+                concerned(fact),
+                Answer::Accepted,
+            )
+        }
     }
 }
 
@@ -143,11 +150,15 @@ pub fn mark(board: Board, job: i32, mark: i32) -> Entered
 {
     match mark_gate(board.jobs, job, mark) {
         Gate::Closed(refusal) => refused(refusal, board),
-        Gate::Open => settle(
-            board,
-            update(board, marking(index(job), mark_value(mark))),
-            Answer::Accepted,
-        ),
+        Gate::Open => {
+            let fact = marking(index(job), mark_value(mark));
+            settle(
+                board,
+                update(board, fact),
+                concerned(fact),
+                Answer::Accepted,
+            )
+        }
     }
 }
 
@@ -184,10 +195,14 @@ pub fn cut(board: Board, job: i32, earliest: i32, latest: i32) -> Entered
 {
     match cut_gate(board.jobs, job, earliest, latest) {
         Gate::Closed(refusal) => refused(refusal, board),
-        Gate::Open => settle(
-            board,
-            cut_window(board, index(job), earliest, latest),
-            Answer::Accepted,
-        ),
+        Gate::Open => {
+            let at = index(job);
+            settle(
+                board,
+                cut_window(board, at, earliest, latest),
+                words::with(0, at),
+                Answer::Accepted,
+            )
+        }
     }
 }

@@ -11,3 +11,4 @@ pub mod Closes
 pub mod Stepping
 pub mod Checked
 pub mod ClosureLeast
+pub mod Due

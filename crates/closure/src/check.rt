@@ -14,7 +14,7 @@ pub fn passes(b: Board) -> bool
     if !within_limits(b) {
         return false;
     }
-    let found = find(b);
+    let found = find(b, 0);
     if let Found::Nothing = found {
         true
     } else {

@@ -1,6 +1,6 @@
 -- Why striking jobs finds the greatest sum: a set that gives more than the best is open, which is that all jobs with a bound as
 -- great as its least one are still in play, so it lies among them and gives no more than its least bound and all their lengths.
-use mathlib.Core.Path.{_≡_, refl, sym, ap, _∙_, subst, subst⁻¹}
+use mathlib.Core.Path.{_≡_, refl, ap, _∙_, subst, subst⁻¹}
 use mathlib.Core.Bool.{Bool, true, false}
 use mathlib.Core.List.{List}
 use mathlib.Core.Logic.{_≢_, _⊎_, inl, inr}

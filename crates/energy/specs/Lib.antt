@@ -4,6 +4,5 @@ pub mod Members
 pub mod Laws
 pub mod Passed
 pub mod Single
-pub mod Precedence
 pub mod SumBeyond
 pub mod Exact

@@ -12,7 +12,7 @@ use Rattle.minutes.specs.Linear.{whole, plus}
 use Rattle.minutes.specs.Sum.{sum, total, total-member, total-more}
 use Rattle.board.specs.Paper.View.{Side}
 use Rattle.board.specs.Paper.Limits.{jobLimit}
-use Rattle.energy.specs.Energy.{boundAt, lengthAt, endAt, Sum}
+use Rattle.energy.specs.Energy.{lengthAt, endAt, Sum}
 
 pub total-single : (n : ℕ) (f : ℕ → ℤ) (k : ℕ) → k < n → total n (eqb k) f ≡ f k
 unfolding sum

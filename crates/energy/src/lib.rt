@@ -8,8 +8,6 @@ ghost use Rattle.board.specs.Paper.Limits.{jobLimit};
 ghost use Rattle.board.specs.Paper.Values as paper;
 ghost use Rattle.energy.specs.Energy as energy;
 
-pub mod precedence;
-
 // The bound that some jobs leave to another, where it is above what that job has already.
 pub enum EnergyBound {
     Unbounded,

@@ -25,7 +25,7 @@ pub bound-time : (s : Side) (r : Row) → Fits r → IsTime (bound s r)
 bound-time early r f = f .earliest
 bound-time late r f = turned-time late (r .latest) (f .latest)
 
-turned-moderate : (s : Side) (t : ℤ) → Moderate (turned s t) → Moderate t
+pub turned-moderate : (s : Side) (t : ℤ) → Moderate (turned s t) → Moderate t
 turned-moderate early t h = h
 turned-moderate late t h = (omega (whole, minus t), omega (whole, minus t))
 

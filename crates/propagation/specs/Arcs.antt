@@ -88,9 +88,3 @@ module _ (P : Board → Type 0) (before after : List ℕ) where
     sound-then Q before'' after'' rest meets b h p =
         let reached = run b h p in
         reaches-then _ (withArcs b before' after') reached (some _) (rest b (reached .more .within) (meets b h p reached))
-
--- on the board that a run has led to
-pub sound-reached : (P : Board → Type 0) (b : Board) (before after before' after' : List ℕ) → Reached b (withArcs b before after)
-    → P (withArcs b before after) → Sound P before after before' after' → Reached b (withArcs b before' after')
-sound-reached P b before after before' after' reached p run =
-    reaches-then b (withArcs b before after) reached (some (withArcs b before' after')) (run b (reached .more .within) p)

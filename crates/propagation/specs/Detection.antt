@@ -1,5 +1,5 @@
 -- Detectable precedence is sound: a job that would end too late after another comes before it, as R3 infers.
-use mathlib.Core.Path.{_≡_, ap, _∙_}
+use mathlib.Core.Path.{_≡_, sym}
 use mathlib.Core.Bool.{true}
 use mathlib.Core.List.{List}
 use mathlib.Core.Logic.{_≢_}
@@ -7,46 +7,86 @@ use Prim.Native.Nat.{ℕ, _<_, _^_}
 use lib.IntN.{ℤ, pos, _+ℤ_}
 use lib.ListN.{getD, set}
 use lib.Signed.{ltZ}
-use Rattle.words.specs.Bit.{bit, with, without, difference}
-use Rattle.words.specs.BitLaws.{bit-difference, bit-without, without-lt}
-use Rattle.minutes.specs.Linear.{whole}
+use Rattle.words.specs.Bit.{bit, with, without}
+use Rattle.words.specs.BitLaws.{bit-without}
+use Rattle.minutes.specs.Linear.{whole, plus}
+use Rattle.minutes.specs.Time.{Moderate}
 use Rattle.board.specs.declared.Board.{Board}
 use Rattle.board.specs.Paper.View.{Live, view}
 use Rattle.board.specs.Paper.Limits.{jobLimit}
-use Rattle.board.specs.Paper.Rules.{E, L}
-use Rattle.board.specs.Tests.Decides.{retested, _and_, negated, holds, eq, live-is}
+use Rattle.board.specs.Tests.Decides.{retested, _and_, negated, holds, eq}
 use Rattle.board.specs.Inference.Infers.{r3}
-use Rattle.limits.specs.Marked.{unmarked, bit-live}
-use Rattle.propagation.specs.Arcs.{Sound, sound-link}
+use Rattle.energy.specs.Energy.{lengthAt, Times, Lengths}
+use Rattle.propagation.specs.Arcs.{Sound, sound-none, sound-link, sound-then}
 
--- On the board b the live job ends at `end` at the earliest, the jobs of `others` are live ones beside it, and the arrays are the
--- board's own.
-pub record Ending (job : ℕ) (end : ℤ) (others : ℕ) (latest lengths : List ℤ) (b : Board) : Type 0 where
+-- when a job ends at the earliest is far from the ends of an i32
+pub end-moderate : {earliest lengths : List ℤ} → Times earliest → Lengths lengths → (k : ℕ) → Moderate (getD earliest k (pos 0) +ℤ lengthAt lengths k)
+end-moderate {earliest} {lengths} hours work k =
+    let sum = plus (getD earliest k (pos 0)) (lengthAt lengths k) in
+    (omega (whole, sum, hours .time k .low, work .low k), omega (whole, sum, hours .time k .high, work .high k))
+
+-- the arrays are the board's own
+pub record Read (earliest latest lengths : List ℤ) (b : Board) : Type 0 where
+  pub is-earliest : b .earliest ≡ earliest
+  pub is-latest : b .latest ≡ latest
+  pub is-lengths : b .lengths ≡ lengths
+
+-- two live jobs of the board
+pub record Pair (first second : ℕ) (earliest latest lengths : List ℤ) (b : Board) : Type 0 where
+  pub live : Live (view b) first × Live (view b) second
+  pub differ : first ≢ second
+  pub read : Read earliest latest lengths b
+
+-- a live job of the board, and other live ones
+pub record Beside (job others : ℕ) (earliest latest lengths : List ℤ) (b : Board) : Type 0 where
   pub live : Live (view b) job
-  pub ends : end ≡ E (view b) job +ℤ L (view b) job
   pub beside : (k : ℕ) → bit others k ≡ true → Live (view b) k × (job ≢ k)
-  pub latest-is : b .latest ≡ latest
-  pub lengths-is : b .lengths ≡ lengths
+  pub read : Read earliest latest lengths b
 
-module _ (job : ℕ) (end : ℤ) (others : ℕ) (latest lengths : List ℤ) (before after before' after' : List ℕ) where
-  -- one arc more
-  pub detected : Sound (Ending job end others latest lengths) before after before' after' → (k : ℕ) → bit others k ≡ true
-      → ltZ (getD latest k (pos 0)) (end +ℤ getD lengths k (pos 0)) ≡ true → (before'' after'' : List ℕ)
-      → before'' ≡ set before' job (with (getD before' job 0) k) → after'' ≡ set after' k (with (getD after' k 0) job)
-      → Sound (Ending job end others latest lengths) before after before'' after''
-  detected run k member late before'' after'' e d =
-      sound-link (Ending job end others latest lengths) before after before' after' run k job before'' after'' e d λ b h p reached.
-      let (live, ne) = p .beside k member in
-      let test = rw (← p .latest-is, ← p .lengths-is, p .ends) at late in
-      r3 job k (p .live) live ne (omega (whole, test))
+-- live jobs of the board
+pub record AllLive (live : ℕ) (earliest latest lengths : List ℤ) (b : Board) : Type 0 where
+  pub members : (k : ℕ) → bit live k ≡ true → Live (view b) k
+  pub read : Read earliest latest lengths b
 
--- the live jobs beside a job that have no arc to it yet
-pub others-beside : (b : Board) (lives : ℕ) → lives < 2 ^ jobLimit → lives ≡ unmarked (b .jobs) (b .marks) 2 → (job row : ℕ) → job < jobLimit
-    → row < 2 ^ jobLimit → (rest others : ℕ) → rest ≡ without jobLimit lives job → others ≡ difference jobLimit rest row
-    → (k : ℕ) → bit others k ≡ true → Live (view b) k × (job ≢ k)
-others-beside b lives width is job row place fits rest others e d k member =
-    let tests = retested (bit-difference jobLimit (without jobLimit lives job) row k (without-lt jobLimit lives job width) fits)
-    (retested (bit-without jobLimit lives job k width place)
-    (retested (ap (λ w. bit w k) is ∙ bit-live b k) (live-is (view b) k) and negated (eq job k)) and negated (holds (bit row k)))
-    in
-    tests .yes (rw (d, e) at member) .0
+module _ (earliest latest lengths : List ℤ) (before after : List ℕ) where
+  -- R3 at a pair
+  pub detected : (first second : ℕ) (before' after' : List ℕ)
+      → ltZ (getD latest second (pos 0)) (getD earliest first (pos 0) +ℤ getD lengths first (pos 0) +ℤ getD lengths second (pos 0)) ≡ true
+      → before' ≡ set before first (with (getD before first 0) second) → after' ≡ set after second (with (getD after second 0) first)
+      → Sound (Pair first second earliest latest lengths) before after before' after'
+  detected first second before' after' late e d =
+      sound-link (Pair first second earliest latest lengths) before after before after (sound-none (Pair first second earliest latest lengths) before after)
+      second first before' after' e d λ b h p reached.
+      let test = rw (← p .read .is-latest, ← p .read .is-lengths, ← p .read .is-earliest) at late in
+      r3 first second (p .live .0) (p .live .1) (p .differ) (omega (whole, test))
+
+  -- one other job more, either way
+  module _ (job others : ℕ) (before' after' : List ℕ) (run : Sound (Beside job others earliest latest lengths) before after before' after')
+      (k : ℕ) (member : bit others k ≡ true) (before'' after'' : List ℕ) where
+    pub to-job : Sound (Pair job k earliest latest lengths) before' after' before'' after''
+        → Sound (Beside job others earliest latest lengths) before after before'' after''
+    to-job rest =
+        sound-then (Beside job others earliest latest lengths) before after before' after' run (Pair job k earliest latest lengths) before'' after'' rest
+        λ b h p reached. let (live, ne) = p .beside k member in record { live = (p .live, live); differ = ne; read = record { is-earliest = p .read .is-earliest; is-latest = p .read .is-latest; is-lengths = p .read .is-lengths } }
+
+    pub from-job : Sound (Pair k job earliest latest lengths) before' after' before'' after''
+        → Sound (Beside job others earliest latest lengths) before after before'' after''
+    from-job rest =
+        sound-then (Beside job others earliest latest lengths) before after before' after' run (Pair k job earliest latest lengths) before'' after'' rest
+        λ b h p reached. let (live, ne) = p .beside k member in record { live = (live, p .live); differ = λ e. ne (sym e); read = record { is-earliest = p .read .is-earliest; is-latest = p .read .is-latest; is-lengths = p .read .is-lengths } }
+
+  -- one live job more, with all others
+  pub job-detected : (live : ℕ) → live < 2 ^ jobLimit → (before' after' : List ℕ) → Sound (AllLive live earliest latest lengths) before after before' after'
+      → (job others : ℕ) → job < jobLimit → bit live job ≡ true → others ≡ without jobLimit live job → (before'' after'' : List ℕ)
+      → Sound (Beside job others earliest latest lengths) before' after' before'' after''
+      → Sound (AllLive live earliest latest lengths) before after before'' after''
+  job-detected live width before' after' run job others place member e before'' after'' rest =
+      sound-then (AllLive live earliest latest lengths) before after before' after' run (Beside job others earliest latest lengths) before'' after'' rest
+      λ b h p reached. record {
+        live = p .members job member;
+        beside = λ k m.
+            let tests = retested (bit-without jobLimit live job k width place) (holds (bit live k) and negated (eq job k)) in
+            let (live, ne) = tests .yes (rw e at m) in
+            (p .members k live, ne);
+        read = record { is-earliest = p .read .is-earliest; is-latest = p .read .is-latest; is-lengths = p .read .is-lengths };
+      }

@@ -5,3 +5,4 @@ pub mod Arcs
 pub mod Transitivity
 pub mod Detection
 pub mod Precedence
+pub mod Rounds

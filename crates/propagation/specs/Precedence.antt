@@ -1,82 +1,173 @@
--- Precedence propagation is sound: the bound that a set of valid jobs on one side of a job leaves to it is what R4 or R5 infers.
-use mathlib.Core.Path.{_≡_, sym, _∙_, subst⁻¹}
-use mathlib.Core.Bool.{true}
+-- Precedence propagation is sound: the bound that valid jobs on one side of a job leave to it is what R4 or R5 infers, and to
+-- store it where the job still fits is the update by that bound.
+use mathlib.Core.Path.{_≡_, refl, sym, _∙_, subst}
+use mathlib.Core.Bool.{Bool, true}
+use mathlib.Core.List.{List, [], _∷_}
 use mathlib.Core.Option.{some}
-use Prim.Native.Nat.{ℕ, _<_, _^_}
-use lib.IntN.{ℤ}
-use lib.ListN.{getD}
-use Rattle.words.specs.Bit.{bit, intersection, without}
-use Rattle.words.specs.BitLaws.{bit-intersection, without-lt}
-use Rattle.minutes.specs.Bools.{and-parts}
-use Rattle.minutes.specs.Linear.{whole}
+use Prim.Native.Nat.{ℕ, zero, suc}
+use lib.IntN.{ℤ, pos, _+ℤ_}
+use lib.ListN.{getD, set}
+use lib.Seq.{set-getD}
+use lib.Signed.{leZ, ltZ, _≤ℤ_, _<ℤ_}
+use Rattle.words.specs.Bit.{bit}
+use Rattle.words.specs.BitLaws.{bit-intersection}
+use Rattle.minutes.specs.Bools.{and-parts, is-true}
+use Rattle.minutes.specs.Linear.{whole, plus, minus}
+use Rattle.minutes.specs.Time.{Moderate}
 use Rattle.board.specs.declared.Board.{Board}
 use Rattle.board.specs.Paper.View.{Live, Valid, Side, early, late, Beyond, view}
-use Rattle.board.specs.Paper.Facts.{is-bound, Holds}
-use Rattle.board.specs.Paper.Limits.{jobLimit, Within}
-use Rattle.board.specs.Order.Laws.{valid-up}
-use Rattle.board.specs.Inference.Infers.{Infers, r45}
-use Rattle.energy.specs.Exact.{timesOf, bound-is, sum-beyond}
-use Rattle.energy.specs.SumBeyond.{sum-pushes}
-use Rattle.energy.specs.Energy.{Pushes}
-use Rattle.propagation.specs.Reaches.{Reached}
+use Rattle.board.specs.Paper.Facts.{is-bound}
+use Rattle.board.specs.Paper.Limits.{IsTime, Within}
+use Rattle.board.specs.Paper.Values.{turned}
+use Rattle.board.specs.Inference.Infers.{Infers}
+use Rattle.board.specs.Tests.Live.{live-show}
+use Rattle.board.specs.Update.Updates.{update, tighten}
+use Rattle.energy.specs.Energy.{boundAt, lengthAt, Times, Lengths, Pushes}
+use Rattle.energy.specs.Exact.{timesOf}
+use Rattle.energy.specs.Laws.{turned-back, sum-range}
+use Rattle.rules.specs.BoundBeyond.{pushing}
+use Rattle.rules.specs.JobSearched.{wordsOf, beyond-bit, sum-infers}
+use Rattle.propagation.specs.Applies.{turned-moderate}
+use Rattle.propagation.specs.Reaches.{Reached, Reaches, reached-self, reaches-then, further}
 
--- what stands on side s
-abbrev pub onSide {ℓ} : {A : Type ℓ} → Side → A → A → A
-onSide early x y = x
-onSide late x y = y
+-- a board's times on the other side than s
+abbrev fixedOf : Board → Side → List ℤ
+fixedOf b early = b .latest
+fixedOf b late = b .earliest
 
-module _ (b : Board) (h : Within b) (valids : ℕ) (sound : (x : ℕ) → bit valids x ≡ true → Valid (view b) x) (j : ℕ) where
-  -- the jobs of the board that lie beyond j on side s
-  abbrev beside : Side → ℕ
-  beside s = onSide s (getD (b .before) j 0) (getD (b .after) j 0)
+-- the board b with other times on side s
+abbrev pub withTimes : Side → Board → List ℤ → Board
+withTimes early b times =
+    record {
+      jobs = b .jobs;
+      lengths = b .lengths;
+      earliest = times;
+      latest = b .latest;
+      marks = b .marks;
+      after = b .after;
+      before = b .before;
+      tally = b .tally;
+    }
+withTimes late b times =
+    record {
+      jobs = b .jobs;
+      lengths = b .lengths;
+      earliest = b .earliest;
+      latest = times;
+      marks = b .marks;
+      after = b .after;
+      before = b .before;
+      tally = b .tally;
+    }
 
-  beside-beyond : (s : Side) (k : ℕ) → bit (beside s) k ≡ true → Beyond (view b) s k j
-  beside-beyond early k e = sym (h .twice k j) ∙ e
-  beside-beyond late k e = e
+-- On any board with the times `times` on side s of which P holds, inferences lead to the times `times'`.
+abbrev pub Raises : Side → (Board → Type 0) → List ℤ → List ℤ → Type 0
+Raises s P times times' = (b : Board) → Within (withTimes s b times) → P (withTimes s b times) → Reached (withTimes s b times) (withTimes s b times')
 
-  members : (s : Side) (k : ℕ) → bit (intersection valids (beside s)) k ≡ true → Valid (view b) k × Beyond (view b) s k j
-  members s k e =
-      let (v, w) = and-parts (bit valids k) (bit (beside s) k) (sym (bit-intersection valids (beside s) k) ∙ e) in
-      (sound k v, beside-beyond s k w)
-
-  -- arcs join live jobs
-  beyond-live : (s : Side) (k : ℕ) → Beyond (view b) s k j → Live (view b) j
-  beyond-live early k arc = h .limits .arcs k j arc .1
-  beyond-live late k arc = h .limits .arcs j k arc .0
-
-  infers : (s : Side) (z : ℤ) → Pushes s (timesOf b s) (b .lengths) (intersection valids (beside s)) j (some z)
-      → Infers (view b) (is-bound s j z) × (Holds (view b) (is-bound s j z) → ⊥)
-  infers s z (p, above) =
-      let sum = sum-beyond b h s j _ (members s) z p in
-      let live = beyond-live s _ (sum .beyond _ (sum .member) .1) in (
-        subst⁻¹ (λ x. Infers (view b) (is-bound s j x)) (sum .is) (r45 s j (sum .set) _ live (sum-pushes (view b) s j z sum)),
-        λ m. omega (whole, m .1 live, bound-is b s j),
-      )
-
-  pub pushes-infers : (s : Side) (z : ℤ)
-      → Pushes s (onSide s (b .earliest) (b .latest)) (b .lengths) (intersection valids (beside s)) j (some z)
-      → Infers (view b) (is-bound s j z) × (Holds (view b) (is-bound s j z) → ⊥)
-  pushes-infers early = infers early
-  pushes-infers late = infers late
-
--- in a pass from b, with the word of its valid jobs, c has been reached and the jobs of `left` are still to come
-pub record InPass (b : Board) (valids : ℕ) (c : Board) (left : ℕ) : Type 0 where
-  pub width : left < 2 ^ jobLimit
-  pub within : Within b
+-- the rest of the board as the code reads it: the times on the other side, the lengths, the words of the jobs beyond each job on
+-- side s, and valid jobs
+pub record Reads (s : Side) (fixed lengths : List ℤ) (beyond : List ℕ) (valids : ℕ) (b : Board) : Type 0 where
+  pub is-fixed : fixedOf b s ≡ fixed
+  pub is-lengths : b .lengths ≡ lengths
+  pub is-beyond : wordsOf b s ≡ beyond
   pub sound : (x : ℕ) → bit valids x ≡ true → Valid (view b) x
-  pub reached : Reached b c
 
-module _ (b : Board) (valids : ℕ) (c : Board) (left : ℕ) (p : InPass b valids c left) where
-  -- valid jobs stay valid
-  pub pass-sound : (x : ℕ) → bit valids x ≡ true → Valid (view c) x
-  pass-sound x e = valid-up (view b) (view c) (p .reached .more .above) x (p .sound x e)
+-- R6: does a job of that length fit between the time t on side s and the other end of its window?
+abbrev pub room : Side → ℤ → ℤ → ℤ → Bool
+room early t fixed length = leZ (t +ℤ length) fixed
+room late t fixed length = leZ (fixed +ℤ length) t
 
-  pub pass-infers : (s : Side) (j : ℕ) (z : ℤ)
-      → Pushes s (onSide s (c .earliest) (c .latest)) (c .lengths) (intersection valids (onSide s (getD (c .before) j 0) (getD (c .after) j 0))) j (some z)
-      → Infers (view c) (is-bound s j z) × (Holds (view c) (is-bound s j z) → ⊥)
-  pass-infers s j z = pushes-infers c (p .reached .more .within) valids pass-sound j s z
+-- arcs join live jobs
+beyond-live : (b : Board) → Within b → (s : Side) (j k : ℕ) → Beyond (view b) s k j → Live (view b) j
+beyond-live b h early j k arc = h .limits .arcs k j arc .1
+beyond-live b h late j k arc = h .limits .arcs j k arc .0
 
-  -- one job less, and perhaps another board
-  pub pass-goes : (k next : ℕ) (d : Board) → next ≡ without jobLimit left k → Reached b d → InPass b valids d next
-  pass-goes k next d e reached =
-      record { width = rw e (without-lt jobLimit left k (p .width)); within = p .within; sound = p .sound; reached = reached }
+-- a bound that valid jobs leave is inferred
+pushes-infers : (b : Board) → Within b → (valids : ℕ) → ((x : ℕ) → bit valids x ≡ true → Valid (view b) x) → (s : Side) (j : ℕ) (z : ℤ)
+    → Pushes s (timesOf b s) (b .lengths) (pushing (wordsOf b s) valids j) j (some z) → Live (view b) j × Infers (view b) (is-bound s j z)
+pushes-infers b h valids sound s j z (sum, above) =
+    let live = beyond-live b h s j (sum .first) (members (sum .first) (sum .inside (sum .first) (sum .member)) .1) in
+    (live, sum-infers b h s j (pushing (wordsOf b s) valids j) live members z sum above .0)
+  where
+    members : (k : ℕ) → bit (pushing (wordsOf b s) valids j) k ≡ true → Valid (view b) k × Beyond (view b) s k j
+    members k e =
+        let word = getD (wordsOf b s) j 0 in
+        let (v, w) = and-parts (bit valids k) (bit word k) (sym (bit-intersection valids word k) ∙ e) in
+        (sound k v, beyond-bit b h s j k .yes w)
+
+-- a bound stored where the job still fits is the update by it
+moved : (s : Side) (b : Board) (times : List ℤ) (j : ℕ) (t : ℤ) → Live (view (withTimes s b times)) j → ltZ (boundAt s times j) (turned s t) ≡ true
+    → room s t (getD (fixedOf (withTimes s b times) s) j (pos 0)) (lengthAt (withTimes s b times .lengths) j) ≡ true
+    → update (withTimes s b times) (is-bound s j (turned s t)) ≡ some (withTimes s b (set times j t))
+unfolding update tighten
+moved early b times j t live above fits = rw (live-show (view (withTimes early b times)) j live, above, fits) (simp set-getD)
+moved late b times j t live above fits =
+    rw (live-show (view (withTimes late b times)) j live, above, turned-back late t, fits) (simp set-getD)
+
+times-are : (s : Side) (b : Board) (times : List ℤ) → timesOf (withTimes s b times) s ≡ times
+times-are early b times = refl
+times-are late b times = refl
+
+-- the times on side s are read by nothing else
+same-rest : (s : Side) (b : Board) (times times' : List ℤ) (fixed lengths : List ℤ) (beyond : List ℕ) (valids : ℕ)
+    → Reads s fixed lengths beyond valids (withTimes s b times) → Reads s fixed lengths beyond valids (withTimes s b times')
+same-rest early b times times' fixed lengths beyond valids r =
+    record { is-fixed = r .is-fixed; is-lengths = r .is-lengths; is-beyond = r .is-beyond; sound = r .sound }
+same-rest late b times times' fixed lengths beyond valids r =
+    record { is-fixed = r .is-fixed; is-lengths = r .is-lengths; is-beyond = r .is-beyond; sound = r .sound }
+
+module _ (s : Side) (fixed lengths : List ℤ) (beyond : List ℕ) (valids : ℕ) (times : List ℤ) where
+  pub raises-none : Raises s (Reads s fixed lengths beyond valids) times times
+  raises-none b h p = reached-self (withTimes s b times) h
+
+  -- one bound more
+  pub raises-then : (times' : List ℤ) → Raises s (Reads s fixed lengths beyond valids) times times' → (j : ℕ) (t : ℤ)
+      → Pushes s times' lengths (pushing beyond valids j) j (some (turned s t))
+      → room s t (getD fixed j (pos 0)) (lengthAt lengths j) ≡ true
+      → Raises s (Reads s fixed lengths beyond valids) times (set times' j t)
+  raises-then times' run j t push fits b h p =
+      let reached = run b h p in
+      let c = withTimes s b times' in
+      let rest = same-rest s b times times' fixed lengths beyond valids p in
+      let pushed : Pushes s (timesOf c s) (c .lengths) (pushing (wordsOf c s) valids j) j (some (turned s t)) =
+      rw (times-are s b times', rest .is-lengths, rest .is-beyond) push in
+      let (live, infers) = pushes-infers c (reached .more .within) valids (rest .sound) s j (turned s t) pushed in
+      let above = is-true (ltZ (boundAt s times' j) (turned s t)) (λ e. omega (whole, push .1)) in
+      let same = moved s b times' j t live above (rw (rest .is-fixed, rest .is-lengths) fits) in
+      subst (Reaches (withTimes s b times)) same (further (withTimes s b times) c reached (is-bound s j (turned s t)) infers)
+
+  -- one run after another
+  pub raises-on : (times' times'' : List ℤ) → Raises s (Reads s fixed lengths beyond valids) times times'
+      → Raises s (Reads s fixed lengths beyond valids) times' times'' → Raises s (Reads s fixed lengths beyond valids) times times''
+  raises-on times' times'' run more b h p =
+      let reached = run b h p in
+      let rest = more b (reached .more .within) (same-rest s b times times' fixed lengths beyond valids p) in
+      reaches-then (withTimes s b times) (withTimes s b times') reached (some (withTimes s b times'')) rest
+
+-- ---- the times stay times
+
+-- a bound that jobs leave is far from the ends of an i32
+pub pushed-moderate : (s : Side) {times lengths : List ℤ} (w j : ℕ) (t : ℤ) → Times times → Lengths lengths
+    → Pushes s times lengths w j (some (turned s t)) → Moderate t
+pushed-moderate s w j t hours work (sum, above) =
+    let (low, high) = sum-range hours work sum in
+    turned-moderate s t (omega whole, omega whole)
+
+-- a time stored among times
+pub times-set : (times : List ℤ) → Times times → (j : ℕ) (t : ℤ) → IsTime t → Times (set times j t)
+times-set times h j t is = record { time = go times (h .time) j }
+  where
+    go : (l : List ℤ) → ((k : ℕ) → IsTime (getD l k (pos 0))) → (i k : ℕ) → IsTime (getD (set l i t) k (pos 0))
+    go [] all i k = all k
+    go (x ∷ l) all zero zero = is
+    go (x ∷ l) all zero (suc k) = all (suc k)
+    go (x ∷ l) all (suc i) zero = all zero
+    go (x ∷ l) all (suc i) (suc k) = go l (λ m. all (suc m)) i k
+
+-- a bound that is above the old one, and with which the job still fits, is a time
+pub room-time : (s : Side) (t old fixed length : ℤ) → IsTime old → IsTime fixed → pos 0 ≤ℤ length → turned s old <ℤ turned s t
+    → room s t fixed length ≡ true → IsTime t
+room-time early t old fixed length o f l up fits =
+    record { low = omega (whole, o .low); high = omega (whole, plus t length, f .high) }
+room-time late t old fixed length o f l up fits =
+    record { low = omega (whole, plus fixed length, f .low); high = omega (whole, minus t, minus old, o .high) }

@@ -32,7 +32,10 @@ module _ (b : Board) (within : Within b) (from through : ℕ) (place : from < jo
       (retested (bit-without jobLimit (row through) from to (after-fits b within through) place) (holds (bit (row through) to) and negated (eq from to))
       and negated (holds (bit (row from) to)))
 
--- job k is valid, and comes after job i
+-- valid jobs; a valid job k; a valid job k that comes after job i
+abbrev pub AllValid : ℕ → Board → Type 0
+AllValid w b = (x : ℕ) → bit w x ≡ true → Valid (view b) x
+
 abbrev pub Through : ℕ → Board → Type 0
 Through k b = Valid (view b) k
 
@@ -65,3 +68,9 @@ module _ (before after before' after' : List ℕ) where
   row-joined through run from member before'' after'' rest =
       sound-then (Through through) before after before' after' run (Forth from through) before'' after'' rest
       λ b h valid reached. (valid, arc-stays b before after before' after' reached h from through (sym (h .twice from through) ∙ member))
+
+  -- one valid job more
+  pub through-joined : (valids : ℕ) → Sound (AllValid valids) before after before' after' → (through : ℕ) → bit valids through ≡ true
+      → (before'' after'' : List ℕ) → Sound (Through through) before' after' before'' after'' → Sound (AllValid valids) before after before'' after''
+  through-joined valids run through member before'' after'' rest =
+      sound-then (AllValid valids) before after before' after' run (Through through) before'' after'' rest λ b h valid reached. valid through member

@@ -14,3 +14,13 @@ pub fn link(before: &mut [u64; Board::JOBS], after: &mut [u64; Board::JOBS], fro
     before[to] = words::with(before[to], from);
     after[from] = words::with(after[from], to);
 }
+
+// The jobs at the ends of arcs between `job` and `others`: none where there are no others.
+pub fn ends(job: usize, others: u64) -> u64
+    requires { ⌜ job < jobLimit ⌝ }
+{
+    if others == 0 {
+        return 0;
+    }
+    words::with(others, job)
+}

@@ -1,23 +1,112 @@
-// Propagation: passes that apply one rule all over the board. Each is sound and need not be complete: together they leave the
-// search little to find.
+// Propagation: each rule applied where something may have changed, and from there on as far as it leads. It is sound and need not be
+// complete: it leaves the search little to find.
 use crate::detection::detect_arcs;
-use crate::precedence::push_windows;
+use crate::precedence::push;
 use crate::transitivity::join_arcs;
 use board::Board;
-use updates::Outcome;
+use board::facts::Side;
+use limits::marked::live;
+use limits::marked::marked;
 ghost use Rattle.board.specs.Paper.Limits.{Within};
-ghost use Rattle.updates.specs.Outcome.{outcomeOf};
-ghost use Rattle.propagation.specs.Reaches.{Reaches};
+ghost use Rattle.energy.specs.Energy.{Times, Lengths};
+ghost use Rattle.propagation.specs.Reaches.{Reached};
+ghost use Rattle.propagation.specs.Arcs.{Sound};
+ghost use Rattle.propagation.specs.Rounds.{Marked};
 
 pub mod arcs;
 pub mod detection;
 pub mod precedence;
 pub mod transitivity;
 
-// The arcs before the windows, since the windows move along them.
-pub fn propagate(b: Board) -> Outcome
-    requires { ⌜ Within b ⌝ }
-    ensures { λ r. ⌜ Reaches b (outcomeOf r) ⌝ }
+// How many rounds there are at the most. What a round leaves the next one finds, and what the last one leaves the search does.
+const ROUNDS: usize = 16;
+
+// The arcs that R3 infers at the jobs that are due, and those that R1 infers from these. Gives the jobs that are due now: the same, and
+// those at the ends of new arcs.
+fn set_arcs<'a>(
+    before: &mut [u64; Board::JOBS],
+    after: &mut [u64; Board::JOBS],
+    due: u64,
+    live: u64,
+    valid: u64,
+    earliest: &'a [i32; Board::JOBS],
+    latest: &'a [i32; Board::JOBS],
+    lengths: &'a [i32; Board::JOBS],
+) -> u64
+    requires { ⌜ Times (now earliest) × Lengths (now lengths) ⌝ }
+    ensures { λ r. ⌜ Sound (Marked live valid (now (earliest .entry)) (now (latest .entry)) (now (lengths .entry))) (now (before .entry)) (now (after .entry)) (now (before .exit)) (now (after .exit)) ⌝ }
 {
-    push_windows(join_arcs(detect_arcs(b)))
+    let found = detect_arcs(before, after, due, live, earliest, latest, lengths);
+    let detected = words::union(due, found);
+    let through = words::intersection(detected, valid);
+    words::union(detected, join_arcs(before, after, through))
+}
+
+// The board, and a job that no longer fits its window, where there is one.
+pub struct Propagated {
+    pub board: Board,
+    pub stuck: u64,
+}
+
+// The jobs that are due next: none where one is stuck.
+fn onward(moved: u64, stuck: u64) -> u64 {
+    if stuck == 0 { moved } else { 0 }
+}
+
+// In each round the arcs before the windows, since the windows move along them; then the jobs whose windows moved are due.
+pub fn propagate(b: Board, due: u64) -> Propagated
+    requires { ⌜ Within b ⌝ }
+    ensures { λ r. ⌜ Reached b (r .board) ⌝ }
+{
+    let live = live(b.jobs, &b.marks);
+    let valid = marked(b.jobs, &b.marks, Board::VALID);
+    let mut earliest = b.earliest;
+    let mut latest = b.latest;
+    let mut before = b.before;
+    let mut after = b.after;
+    let mut left = due;
+    let mut stuck = 0;
+    for _ in 0..ROUNDS {
+        if left == 0 {
+            break;
+        }
+        let arcs = set_arcs(
+            &mut before,
+            &mut after,
+            left,
+            live,
+            valid,
+            &earliest,
+            &latest,
+            &b.lengths,
+        );
+        let raised = push(
+            Side::Early,
+            &mut earliest,
+            &latest,
+            &b.lengths,
+            &before,
+            &after,
+            valid,
+            arcs,
+        );
+        let lowered = push(
+            Side::Late,
+            &mut latest,
+            &earliest,
+            &b.lengths,
+            &after,
+            &before,
+            valid,
+            arcs,
+        );
+        stuck = words::union(raised.stuck, lowered.stuck);
+        left = onward(words::union(raised.moved, lowered.moved), stuck);
+    }
+    let mut board = b;
+    board.earliest = earliest;
+    board.latest = latest;
+    board.before = before;
+    board.after = after;
+    Propagated { board, stuck }
 }

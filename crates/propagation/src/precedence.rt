@@ -1,136 +1,143 @@
-// Precedence propagation: the live jobs in topological order, each window bounded by the valid jobs on one side of it, singly
-// and all together. It is sound and not complete: it leaves the search little to find, where a long chain of jobs moves.
+// Precedence propagation: the windows of the jobs that are due, in topological order, each bounded by the valid jobs on one side of it.
 use board::Board;
-use board::facts::Fact;
 use board::facts::Side;
 use energy::EnergyBound;
-use energy::precedence::push;
-use limits::marked::live;
-use limits::marked::marked;
-use updates::Outcome;
+use rules::job::bound_beyond;
+use rules::job::last;
+use windows::Window;
 ghost use mathlib.Core.Path.{_≡_};
 ghost use mathlib.Core.Bool.{true};
 ghost use mathlib.Core.Logic.{_≢_};
 ghost use Prim.Native.Nat.{_<_};
-ghost use Rattle.words.specs.Bit.{bit, intersection};
-ghost use Rattle.board.specs.Paper.Limits.{jobLimit, Within};
+ghost use Rattle.words.specs.Bit.{bit};
+ghost use Rattle.minutes.specs.Time.{Moderate};
+ghost use Rattle.board.specs.Paper.Limits.{jobLimit};
 ghost use Rattle.board.specs.Paper.Values.{sideOf};
-ghost use Rattle.energy.specs.Energy.{boundOf, Times, Lengths, Pushes};
-ghost use Rattle.updates.specs.Outcome.{outcomeOf};
-ghost use Rattle.propagation.specs.Reaches.{Reaches};
-ghost use Rattle.propagation.specs.Precedence.{onSide};
+ghost use Rattle.energy.specs.Energy.{Times, Lengths};
+ghost use Rattle.propagation.specs.Precedence as windows;
 
-// A job of the set with none of `pushing` in its word. Where each has one, as when valid jobs lie on a cycle, any job will do.
-fn first(set: u64, pushing: u64, arcs: &[u64; Board::JOBS]) -> usize
-    requires { ⌜ set ≢ 0 ⌝ }
-    ensures { λ r. ⌜ (r < jobLimit) × (bit set r ≡ true) ⌝ }
-{
-    let mut left = set;
-    while left != 0 {
-        let k = words::lowest(left);
-        if words::intersection(arcs[k], pushing) == 0 {
-            return k;
-        }
-        left = words::without(left, k);
-    }
-    words::lowest(set)
-}
+// How many jobs a pass visits at the most. More are due only where valid jobs lie on a cycle, and a cycle is a contradiction.
+const VISITS: usize = 256;
 
-// The next job of the set in topological order: predecessors first, or on the late side successors.
-fn next_job<'a>(
-    side: Side,
-    set: u64,
-    pushing: u64,
-    before: &'a [u64; Board::JOBS],
-    after: &'a [u64; Board::JOBS],
-) -> usize
-    requires { ⌜ set ≢ 0 ⌝ }
-    ensures { λ r. ⌜ (r < jobLimit) × (bit set r ≡ true) ⌝ }
+// R6: does a job of that length fit between its new time on one side and the other end of its window?
+fn holds(side: Side, time: i32, fixed: i32, length: i32) -> bool
+    requires { ⌜ Moderate time × Moderate fixed × Moderate length ⌝ }
+    ensures { λ r. ⌜ r ≡ windows.room (sideOf side) time fixed length ⌝ }
 {
     match side {
-        Side::Early => first(set, pushing, before),
-        Side::Late => first(set, pushing, after),
+        Side::Early => {
+            let window = Window {
+                earliest: time,
+                latest: fixed,
+            };
+            window.holds(length)
+        }
+        Side::Late => {
+            let window = Window {
+                earliest: fixed,
+                latest: time,
+            };
+            window.holds(length)
+        }
     }
 }
 
-// The bound that the valid jobs on one side of a job leave to it, singly or all together, where it says something new.
-fn pushed<'a>(
+// The next job in topological order: a valid one, where any is due, with no other valid one that is due beyond it.
+fn next_job(due: u64, valid: u64, beyond: &[u64; Board::JOBS]) -> usize
+    requires { ⌜ due ≢ 0 ⌝ }
+    ensures { λ r. ⌜ r < jobLimit ⌝ }
+{
+    let pushing = words::intersection(due, valid);
+    if pushing == 0 {
+        return words::lowest(due);
+    }
+    last(pushing, beyond)
+}
+
+// The jobs that moved, and a job that can't move as far as it has to: it no longer fits its window, where there is one.
+pub struct Pushed {
+    pub moved: u64,
+    pub stuck: u64,
+}
+
+// A job's bound on one side put to what the valid jobs beyond it leave to it, where the job still fits.
+fn push_job<'a>(
     side: Side,
     job: usize,
-    earliest: &'a [i32; Board::JOBS],
-    latest: &'a [i32; Board::JOBS],
+    times: &mut [i32; Board::JOBS],
+    fixed: &'a [i32; Board::JOBS],
     lengths: &'a [i32; Board::JOBS],
+    beyond: &'a [u64; Board::JOBS],
+    opposite: &'a [u64; Board::JOBS],
     valid: u64,
-    before: u64,
-    after: u64,
-) -> EnergyBound
-    requires { ⌜ (job < jobLimit) × Times (now earliest) × Times (now latest) × Lengths (now lengths) ⌝ }
-    ensures { λ r. ⌜ Pushes (sideOf side) (onSide (sideOf side) (now (earliest .entry)) (now (latest .entry))) (now (lengths .entry)) (intersection valid (onSide (sideOf side) before after)) job (boundOf (sideOf side) r) ⌝ }
+) -> Pushed
+    requires { ⌜ (job < jobLimit) × Times (now times) × Times (now fixed) × Lengths (now lengths) ⌝ }
+    ensures { λ r. ⌜ Times (now (times .exit)) ⌝ }
+    ensures { λ r. ⌜ windows.Raises (sideOf side) (windows.Reads (sideOf side) (now (fixed .entry)) (now (lengths .entry)) (now (beyond .entry)) valid) (now (times .entry)) (now (times .exit)) ⌝ }
 {
-    match side {
-        Side::Early => push(
-            side,
-            earliest,
-            lengths,
-            words::intersection(valid, before),
-            job,
-        ),
-        Side::Late => push(
-            side,
-            latest,
-            lengths,
-            words::intersection(valid, after),
-            job,
-        ),
+    let bound = bound_beyond(side, job, times, lengths, beyond, opposite, valid);
+    let EnergyBound::At(time) = bound else {
+        return Pushed { moved: 0, stuck: 0 };
+    };
+    let it = words::with(0, job);
+    if holds(side, time, fixed[job], lengths[job]) {
+        times[job] = time;
+        return Pushed {
+            moved: it,
+            stuck: 0,
+        };
+    }
+    Pushed {
+        moved: 0,
+        stuck: it,
     }
 }
 
-// One pass over the jobs, on one side.
-fn pass(b: Board, side: Side) -> Outcome
-    requires { ⌜ Within b ⌝ }
-    ensures { λ r. ⌜ Reaches b (outcomeOf r) ⌝ }
+// The jobs that `job` may push in its turn, where it moved.
+fn next_due(moved: u64, job: usize, valid: u64, opposite: u64) -> u64
+    requires { ⌜ job < jobLimit ⌝ }
 {
-    let valid = marked(b.jobs, &b.marks, Board::VALID);
-    let mut c = b;
-    let mut left = live(b.jobs, &b.marks);
-    while left != 0 {
-        let pushing = words::intersection(left, valid);
-        let k = next_job(side, left, pushing, &c.before, &c.after);
-        left = words::without(left, k);
-        let before = c.before[k];
-        let after = c.after[k];
-        let bound = pushed(
-            side,
-            k,
-            &c.earliest,
-            &c.latest,
-            &c.lengths,
-            valid,
-            before,
-            after,
-        );
-        if let EnergyBound::At(time) = bound {
-            let next = updates::update(c, Fact::Bound { side, job: k, time });
-            if !next.possible {
-                return next;
-            }
-            c = next.board;
+    if words::has(words::intersection(moved, valid), job) {
+        opposite
+    } else {
+        0
+    }
+}
+
+// One pass over the jobs that are due, on one side. It ends where a job is stuck: then a mark has to change.
+pub fn push<'a>(
+    side: Side,
+    times: &mut [i32; Board::JOBS],
+    fixed: &'a [i32; Board::JOBS],
+    lengths: &'a [i32; Board::JOBS],
+    beyond: &'a [u64; Board::JOBS],
+    opposite: &'a [u64; Board::JOBS],
+    valid: u64,
+    due: u64,
+) -> Pushed
+    requires { ⌜ Times (now times) × Times (now fixed) × Lengths (now lengths) ⌝ }
+    ensures { λ r. ⌜ Times (now (times .exit)) ⌝ }
+    ensures { λ r. ⌜ windows.Raises (sideOf side) (windows.Reads (sideOf side) (now (fixed .entry)) (now (lengths .entry)) (now (beyond .entry)) valid) (now (times .entry)) (now (times .exit)) ⌝ }
+{
+    let mut moved = 0;
+    let mut left = due;
+    for _ in 0..VISITS {
+        if left == 0 {
+            return Pushed { moved, stuck: 0 };
         }
+        let job = next_job(left, valid, beyond);
+        let step = push_job(side, job, times, fixed, lengths, beyond, opposite, valid);
+        if step.stuck != 0 {
+            return Pushed {
+                moved,
+                stuck: step.stuck,
+            };
+        }
+        moved = words::union(moved, step.moved);
+        left = words::union(
+            words::without(left, job),
+            next_due(step.moved, job, valid, opposite[job]),
+        );
     }
-    Outcome {
-        possible: true,
-        board: c,
-    }
-}
-
-// On both sides, since E moves with what comes before a job and D with what comes after it.
-pub fn push_windows(b: Board) -> Outcome
-    requires { ⌜ Within b ⌝ }
-    ensures { λ r. ⌜ Reaches b (outcomeOf r) ⌝ }
-{
-    let raised = pass(b, Side::Early);
-    if !raised.possible {
-        return raised;
-    }
-    pass(raised.board, Side::Late)
+    Pushed { moved, stuck: 0 }
 }

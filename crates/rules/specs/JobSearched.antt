@@ -1,7 +1,7 @@
 -- The search at one job, over numbers: R4 and R5 on one side, and R6.
-use mathlib.Core.Path.{_≡_, ap, _∙_, subst⁻¹}
-use mathlib.Core.Logic.{_≢_, inl, inr}
-use mathlib.Core.Bool.{Bool, true, false}
+use mathlib.Core.Path.{_≡_, subst⁻¹}
+use mathlib.Core.Logic.{inl, inr}
+use mathlib.Core.Bool.{true, false}
 use mathlib.Core.List.{List}
 use mathlib.Core.Option.{Option, none, some}
 use Prim.Native.Nat.{ℕ}
@@ -61,21 +61,21 @@ abbrev pub told : Side → ℕ → Option ℤ → Option Fact
 told s j none = none
 told s j (some z) = some (is-bound s j z)
 
-module _ (b : Board) (h : Within b) (valids : ℕ) (is-valid : (x : ℕ) → bit valids x ≡ valid (view b) x) where
-  beyond-bit : (s : Side) (j k : ℕ) → Decides (bit (getD (wordsOf b s) j 0) k) (Beyond (view b) s k j)
-  beyond-bit early j k = retested (h .twice k j) (holds (view b .arc k j))
-  beyond-bit late j k = holds (view b .arc j k)
+pub beyond-bit : (b : Board) → Within b → (s : Side) (j k : ℕ) → Decides (bit (getD (wordsOf b s) j 0) k) (Beyond (view b) s k j)
+beyond-bit b h early j k = retested (h .twice k j) (holds (view b .arc k j))
+beyond-bit b h late j k = holds (view b .arc j k)
 
+module _ (b : Board) (h : Within b) (valids : ℕ) (is-valid : (x : ℕ) → bit valids x ≡ valid (view b) x) where
   pushing-bit : (s : Side) (j k : ℕ) → Decides (bit (pushing (wordsOf b s) valids j) k) (Valid (view b) k × Beyond (view b) s k j)
   pushing-bit s j k =
-      retested (bit-intersection valids (getD (wordsOf b s) j 0) k) (retested (is-valid k) (valid-is (view b) k) and beyond-bit s j k)
+      retested (bit-intersection valids (getD (wordsOf b s) j 0) k) (retested (is-valid k) (valid-is (view b) k) and beyond-bit b h s j k)
 
   last-ends : (s : Side) (j : ℕ) → LastUnder s (timesOf b s) (b .lengths) (wordsOf b s) (pushing (wordsOf b s) valids j) j → LastEnds (view b) s j
   last-ends s j l =
       record {
         last = l .last;
         valid = pushing-bit s j (l .last) .yes (l .member) .0;
-        others = λ k v beyond ne. beyond-bit s (l .last) k .yes (l .others k (pushing-bit s j k .show (v, beyond)) ne);
+        others = λ k v beyond ne. beyond-bit b h s (l .last) k .yes (l .others k (pushing-bit s j k .show (v, beyond)) ne);
         under = rw (← bound-is b s j, ← bound-is b s (l .last)) (l .under);
       }
 

@@ -42,15 +42,6 @@ module _ (v : View) where
   abbrev pub JobsObey : Type 0
   JobsObey = (i : ℕ) → Live v i → JobObeys i
 
-  -- nothing can be inferred of a pair that is joined one way alone, from k to i
-  pub joined-obeys : (i k : ℕ) → (Arc v i k → ⊥) → Arc v k i → PairObeys i k
-  joined-obeys i k apart arc =
-      record {
-        join = λ _ forth. absurd (apart forth);
-        exclude = λ _ forth. absurd (apart forth);
-        order = λ _. arc;
-      }
-
   -- at each pair and at each job, the rules are obeyed
   pub all-obey : ((i k : ℕ) → Arc v i k → Live v i × Live v k × (i ≢ k)) → PairsObey → JobsObey → Obeys v
   all-obey joins pairs jobs _ (r1 a b c la vb lc ne ab bc) =

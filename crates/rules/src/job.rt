@@ -21,7 +21,7 @@ ghost use Rattle.rules.specs.BoundBeyond.{OthersBeyond, BoundBeyond};
 ghost use Rattle.rules.specs.JobSearched.{SideSearched, JobSearched};
 
 // A last job of the set: one with none of the others on its opposite side. Where each has one, as on a cycle, any job will do.
-fn last(set: u64, opposite: &[u64; Board::JOBS]) -> usize
+pub fn last(set: u64, opposite: &[u64; Board::JOBS]) -> usize
     requires { ⌜ set ≢ 0 ⌝ }
     ensures { λ r. ⌜ (r < jobLimit) × (bit set r ≡ true) ⌝ }
 {

@@ -32,6 +32,14 @@ abbrev pub ReadSearched : (View → Type 0) → ℕ → ℕ → List ℤ → Lis
 ReadSearched Q lives valids earliest latest lengths before after o =
     (b : Board) → Read b lives valids earliest latest lengths before after → Searched (view b) (Q (view b)) o
 
+-- where nothing is found, nothing is said
+abbrev pub Unsaid : View → Type 0
+Unsaid v = Unit
+
+pub unsaid : (v : View) (Q : Type 0) (o : Option Fact) → Searched v Q o → Searched v (Unsaid v) o
+unsaid v Q none h = tt
+unsaid v Q (some f) h = h
+
 -- the rows that are left
 abbrev pub RowsLeft : View → ℕ → Type 0
 RowsLeft v = Left jobLimit (Live v) (RowSettled v)

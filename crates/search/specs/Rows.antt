@@ -1,7 +1,7 @@
 -- A row of the pairs: what it reads of the board, and that nothing is left to infer at a pair of it that is not among its partners.
-use mathlib.Core.Path.{_≡_, sym, ap, _∙_, subst}
+use mathlib.Core.Path.{_≡_, sym, ap, _∙_}
 use mathlib.Core.Logic.{_≢_, _⊎_, inl, inr, ⊎-elim}
-use mathlib.Core.Bool.{Bool, true, false, _&&_, _||_, or-true}
+use mathlib.Core.Bool.{Bool, true, _&&_, _||_, or-true}
 use mathlib.Core.List.{List}
 use Prim.Native.Nat.{ℕ, _<_, _^_}
 use lib.IntN.{ℤ, pos, _+ℤ_}
@@ -9,9 +9,8 @@ use lib.ListN.{getD}
 use lib.Signed.{ltZ, _<ℤ_}
 use Rattle.words.specs.Bit.{bit, union}
 use Rattle.words.specs.BitLaws.{bit-union}
-use Rattle.words.specs.Walk.{Left}
-use Rattle.minutes.specs.Bools.{refuted, is-false, and-parts}
-use Rattle.minutes.specs.Linear.{whole, plus}
+use Rattle.minutes.specs.Bools.{refuted, is-false}
+use Rattle.minutes.specs.Linear.{whole}
 use Rattle.board.specs.declared.Board.{Board}
 use Rattle.board.specs.Paper.View.{View, Live, Valid, Arc, view}
 use Rattle.board.specs.Paper.Limits.{Within, jobLimit}
@@ -20,7 +19,7 @@ use Rattle.board.specs.Tests.Live.{live, valid}
 use Rattle.board.specs.Tests.Decides.{Decides, retested, _and_, holds, live-is, valid-is}
 use Rattle.rules.specs.PairSearched.{PairRead}
 use Rattle.search.specs.Partners.{OrderKnown, OrderLeft, JoinKnown, JoinLeft, or-parts}
-use Rattle.search.specs.Settled.{PairSettled, PairsLeft}
+use Rattle.search.specs.Settled.{PairsLeft}
 
 -- the numbers and words are those of the board at the live job i, with `before` and `after` its sets and `end` its earliest end
 pub record RowRead (b : Board) (i lives valids before after : ℕ) (end : ℤ) (latest lengths : List ℤ) (afters : List ℕ) : Type 0 where

@@ -2,20 +2,17 @@
 -- to R6 of each job. R1 needs no test through a job that lies after another one tested, nor R3 one of a pair that R4 to R6 keep apart.
 use mathlib.Core.Path.{_≡_, refl, sym, ap, _∙_, subst, subst⁻¹}
 use mathlib.Core.Logic.{_≢_, _⊎_, inl, inr, ⊎-elim}
-use mathlib.Core.Bool.{Bool, true, false}
-use mathlib.Core.List.{List}
 use Prim.Native.Nat.{ℕ, zero, suc, _≤_, _<_}
 use native.Mathlib.Decide.{ℕ-discrete}
 use native.Mathlib.Omega.{arith}
 use lib.Dec.{eqb}
-use lib.IntN.{ℤ, negℤ, _+ℤ_}
+use lib.IntN.{negℤ, _+ℤ_}
 use lib.ListN.{getD}
-use lib.Signed.{ltZ, _≤ℤ_, _<ℤ_}
+use lib.Signed.{_≤ℤ_, _<ℤ_}
 use borrow.Author.Tests.{eq-eqb, eqb-true}
 use Rattle.words.specs.Bit.{bit}
 use Rattle.words.specs.BitLaws.{part-at-most}
 use Rattle.words.specs.Walk.{Left}
-use Rattle.minutes.specs.Bools.{refuted, is-true}
 use Rattle.minutes.specs.Linear.{whole, plus, minus}
 use Rattle.board.specs.declared.Board.{Board}
 use Rattle.board.specs.Paper.View.{View, Live, Valid, Arc, Side, early, late, bound, Beyond, view}
@@ -23,7 +20,7 @@ use Rattle.board.specs.Paper.Limits.{Within, jobLimit}
 use Rattle.board.specs.Paper.Rules.{E, D, L}
 use Rattle.board.specs.Inference.Infers.{Obeys}
 use Rattle.energy.specs.Single.{total-single}
-use Rattle.rules.specs.Searched.{SideObeys, PairObeys, PairsObey, JobsObey, all-obey}
+use Rattle.rules.specs.Searched.{PairObeys, PairsObey, JobsObey, all-obey}
 
 module _ (v : View) where
   -- there are arcs from i to all jobs after m

@@ -13,7 +13,7 @@ ghost use Rattle.energy.specs.Energy.{Times, Lengths};
 ghost use Rattle.rules.specs.Searched.{Searched};
 ghost use Rattle.rules.specs.Values.{inferredOf};
 ghost use Rattle.search.specs.Settled.{PairsSettled};
-ghost use Rattle.search.specs.PairsWalk.{ReadSearched, JobsSettled};
+ghost use Rattle.search.specs.PairsWalk.{ReadSearched, Unsaid, JobsSettled};
 
 pub mod partners;
 
@@ -90,13 +90,56 @@ fn at_jobs<'a>(
     Found::Nothing
 }
 
-// The pairs first: the sums of R4 and R5 cost the most, so they wait until no arc is left to infer.
-pub fn find(b: Board) -> Found
+// What R4, R5 and R6 infer of the least live job of a set, where it has one.
+fn at_first<'a>(
+    set: u64,
+    live: u64,
+    valid: u64,
+    earliest: &'a [i32; Board::JOBS],
+    latest: &'a [i32; Board::JOBS],
+    lengths: &'a [i32; Board::JOBS],
+    before: &'a [u64; Board::JOBS],
+    after: &'a [u64; Board::JOBS],
+) -> Found
+    requires { ⌜ Times (now earliest) × Times (now latest) × Lengths (now lengths) ⌝ }
+    ensures { λ r. ⌜ ReadSearched Unsaid live valid (now (earliest .entry)) (now (latest .entry)) (now (lengths .entry)) (now (before .entry)) (now (after .entry)) (inferredOf r) ⌝ }
+{
+    let first = words::intersection(set, live);
+    if first == 0 {
+        return Found::Nothing;
+    }
+    at_job(
+        words::lowest(first),
+        earliest,
+        latest,
+        lengths,
+        before,
+        after,
+        valid,
+    )
+}
+
+// A job of `stuck` comes first: who found that it doesn't fit its window hands it on, and a mark has to change. Then the pairs: the
+// sums of R4 and R5 cost the most, so they wait until no arc is left to infer.
+pub fn find(b: Board, stuck: u64) -> Found
     requires { ⌜ Within b ⌝ }
     ensures { λ r. ⌜ Searched (view b) (Obeys (view b)) (inferredOf r) ⌝ }
 {
     let live = live(b.jobs, &b.marks);
     let valid = marked(b.jobs, &b.marks, Board::VALID);
+    let first = at_first(
+        stuck,
+        live,
+        valid,
+        &b.earliest,
+        &b.latest,
+        &b.lengths,
+        &b.before,
+        &b.after,
+    );
+    if let Found::Inferred(fact) = first {
+        return Found::Inferred(fact);
+    }
     let pairs = at_pairs(
         live,
         valid,

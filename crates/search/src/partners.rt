@@ -2,7 +2,7 @@
 use board::Board;
 use rules::pair::is_late;
 ghost use mathlib.Core.Path.{_≡_};
-ghost use mathlib.Core.Bool.{true, _&&_};
+ghost use mathlib.Core.Bool.{_&&_};
 ghost use Prim.Native.Nat.{ℕ, _<_};
 ghost use Rattle.words.specs.Bit.{bit};
 ghost use Rattle.minutes.specs.Time.{Moderate};

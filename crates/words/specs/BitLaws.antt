@@ -11,7 +11,7 @@ use native.Mathlib.Omega.{arith}
 use lib.Arith.{bin-ind}
 use lib.Bits.{bitAnd, bitOr, bitXor, and-le-l, and-le-r, and-mask, and-mod, and-shr, or-add-and, or-mod, or-shr, xor-add-and, xor-mod, xor-shr, shifted-even, shifted-half}
 use lib.Dec.{eqb, ltb, eqb·zero-suc, eqb·suc-zero, eqb·suc-suc, leb·suc-zero, leb·suc-suc}
-use borrow.Author.Tests.{lt-ltb, le-ltb, eq-eqb, ne-eqb}
+use borrow.Author.Tests.{lt-ltb, le-ltb, eq-eqb, ne-eqb, not-false}
 use lib.Pow.{pow-lt, pow-mono, pow-pos, shl-shr, shr-shr, split}
 use Rattle.words.specs.Bit.{bit, singleton, union, intersection, difference, with, without, setOf}
 
@@ -135,6 +135,18 @@ bit-difference n a b k ha hb = bit-intersection a (2 ^ n - 1 - b) k ∙ kept (de
     kept : Dec (k < n) → (bit a k && bit (2 ^ n - 1 - b) k) ≡ (bit a k && not (bit b k))
     kept (yes h) = ap (λ (t : Bool). bit a k && t) (bit-complement n b k hb h)
     kept (no h) = rw (bit-high n a k ha (omega arith))
+
+-- a set without the members of another is empty where it lies within the other, and only there
+module _ (n a b : ℕ) (ha : a < 2 ^ n) (hb : b < 2 ^ n) where
+  pub subset-show : ((k : ℕ) → bit a k ≡ true → bit b k ≡ true) → difference n a b ≡ 0
+  subset-show h = bit-ext (difference n a b) 0 λ k. bit-difference n a b k ha hb ∙ none (bit a k) (bit b k) (h k) ∙ sym (bit-zero k)
+    where
+      none : (s t : Bool) → (s ≡ true → t ≡ true) → (s && not t) ≡ false
+      none true t i = rw (i refl)
+      none false t i = refl
+
+  pub subset-yes : difference n a b ≡ 0 → (k : ℕ) → bit a k ≡ true → bit b k ≡ true
+  subset-yes e k h = not-false (bit b k) (rw h at (sym (bit-difference n a b k ha hb) ∙ ap (λ (x : ℕ). bit x k) e ∙ bit-zero k))
 
 -- a union is empty where both sets are, and only there; and words that differ in no bit are the same
 pub union-none : (a b : ℕ) → union a b ≡ 0 → (a ≡ 0) × (b ≡ 0)

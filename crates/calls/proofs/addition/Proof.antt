@@ -69,11 +69,14 @@ mark-value-requires c κs =
 append-requires : tie.Need-append-requires
 append-requires c κs = numbers (c .before) .room
 
+with-requires : tie.Need-with-requires
+with-requires c κs = numbers (c .before .before) .room
+
 settle-requires : tie.Need-settle-requires
 settle-requires c κs =
-    let told = c .before .before in
+    let told = c .before .before .before in
     let pre = told .before .before .before .pre in
-    (pre, raw-within _ _ pre (let-pass told) (made c) (shows c))
+    (pre, raw-within _ _ pre (let-pass told) (made (c .before)) (shows (c .before)))
 
 returns : tie.Need-returns
 returns c =
@@ -82,8 +85,8 @@ returns c =
 
 returns-2 : tie.Need-returns-2
 returns-2 c =
-    let told = c .before .before .before in
-    c .settle .ensures ∙ concluded-enter _ _ (told .before .before .before .pre) (let-pass told) (made (c .before)) (shows (c .before))
+    let told = c .before .before .before .before in
+    c .settle .ensures ∙ concluded-enter _ _ (told .before .before .before .pre) (let-pass told) (made (c .before .before)) (shows (c .before .before))
 
 pub addition-spec : {M : Type 1} → statement M
 addition-spec =
@@ -95,6 +98,7 @@ addition-spec =
     enum-told
     mark-value-requires
     append-requires
+    with-requires
     settle-requires
     returns
     returns-2)

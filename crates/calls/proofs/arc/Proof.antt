@@ -4,7 +4,9 @@ use mathlib.Core.Option.{none}
 use borrow.Author.Needs.{needs}
 use mir.ValLaws.{toZ-ofZ}
 use Rattle.updates.specs.Outcome.{outcomeOf}
+use Rattle.board.specs.Paper.Facts.{is-arc}
 use Rattle.closure.specs.Checked.{passes-within}
+use Rattle.closure.specs.Due.{known-more}
 use Rattle.entries.specs.Paper.Entry.{arc, other}
 use Rattle.entries.specs.Paper.Gate.{checks, gate}
 use Rattle.entries.specs.Paper.Enter.{raw}
@@ -69,11 +71,19 @@ update-requires c κs =
     rw (from, to)
     (record { within = passes-within _ (start .pre); known = (h .first .high, h .second .high, h .different); timely = tt })
 
+concerned-requires : tie.Need-concerned-requires
+concerned-requires c κs =
+    let start = c .before .before .before .before .before .before in
+    let h = numbers (c .before .before .before) in
+    let from = simp (toZ-ofZ, start .fits .from) at (c .before .before .index .ensures) in
+    let to = simp (toZ-ofZ, start .fits .to) at (c .before .index2 .ensures) in
+    rw (from, to) (known-more (passes-within _ (start .pre) .limits .jobs) (is-arc _ _) (h .first .high, h .second .high, h .different))
+
 settle-requires : tie.Need-settle-requires
 settle-requires c κs =
-    let told = c .before .before .before in
+    let told = c .before .before .before .before in
     let pre = told .before .before .before .pre in
-    (pre, raw-within _ _ pre (let-pass told) _ (shows c))
+    (pre, raw-within _ _ pre (let-pass told) _ (shows (c .before)))
 
 returns : tie.Need-returns
 returns c =
@@ -82,8 +92,8 @@ returns c =
 
 returns-2 : tie.Need-returns-2
 returns-2 c =
-    let told = c .before .before .before .before in
-    c .settle .ensures ∙ concluded-enter _ _ (told .before .before .before .pre) (let-pass told) (c .before .update .result) (shows (c .before))
+    let told = c .before .before .before .before .before in
+    c .settle .ensures ∙ concluded-enter _ _ (told .before .before .before .pre) (let-pass told) (c .before .before .update .result) (shows (c .before .before))
 
 pub arc-spec : {M : Type 1} → statement M
 arc-spec =
@@ -96,6 +106,7 @@ arc-spec =
     index-requires
     index-requires-2
     update-requires
+    concerned-requires
     settle-requires
     returns
     returns-2)

@@ -1,6 +1,7 @@
 -- `calls::cut` meets its contract: a cut that its gate lets pass is two facts, one for each side. Assumes nothing.
 use mathlib.Core.Path.{_≡_, sym, _∙_}
 use mathlib.Core.Option.{none}
+use native.Mathlib.Omega.{arith}
 use borrow.Author.Needs.{needs}
 use mir.ValLaws.{toZ-ofZ}
 use Rattle.updates.specs.Outcome.{outcomeOf}
@@ -66,11 +67,17 @@ cut-window-requires c κs =
     let job = simp (toZ-ofZ, f .job) at (c .index .ensures) in
     rw job (simp (toZ-ofZ, f .earliest, f .latest) (passes-within _ (start .pre), h .job .high, h .window .earliest, h .window .latest))
 
+with-requires : tie.Need-with-requires
+with-requires c κs =
+    let start = c .before .before .before .before .before in
+    let job = simp (toZ-ofZ, start .fits .job) at (c .before .index .ensures) in
+    rw job (omega (arith, numbers (c .before .before) .job .high, passes-within _ (start .pre) .limits .jobs))
+
 settle-requires : tie.Need-settle-requires
 settle-requires c κs =
-    let told = c .before .before in
+    let told = c .before .before .before in
     let pre = told .before .before .before .pre in
-    (pre, raw-within _ _ pre (let-pass told) _ (shows c))
+    (pre, raw-within _ _ pre (let-pass told) _ (shows (c .before)))
 
 returns : tie.Need-returns
 returns c =
@@ -79,9 +86,9 @@ returns c =
 
 returns-2 : tie.Need-returns-2
 returns-2 c =
-    let told = c .before .before .before in
+    let told = c .before .before .before .before in
     c .settle .ensures
-    ∙ concluded-enter _ _ (told .before .before .before .pre) (let-pass told) (c .before .cut-window .result) (shows (c .before))
+    ∙ concluded-enter _ _ (told .before .before .before .pre) (let-pass told) (c .before .before .cut-window .result) (shows (c .before .before))
 
 pub cut-spec : {M : Type 1} → statement M
 cut-spec =
@@ -93,6 +100,7 @@ cut-spec =
     enum-told
     index-requires
     cut-window-requires
+    with-requires
     settle-requires
     returns
     returns-2)

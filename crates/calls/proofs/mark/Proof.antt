@@ -15,6 +15,7 @@ use Rattle.board.specs.Paper.Values.{factOf}
 use Rattle.updates.specs.Outcome.{outcomeOf}
 use Rattle.updates.specs.Applicable.{Applicable}
 use Rattle.closure.specs.Checked.{passes-within}
+use Rattle.closure.specs.Due.{known-more}
 use Rattle.entries.specs.Paper.Entry.{mark, other, number}
 use Rattle.entries.specs.Paper.Gate.{checks, gate}
 use Rattle.entries.specs.Paper.Enter.{raw}
@@ -98,11 +99,20 @@ update-requires c κs =
     let start = told .before .before .before in
     rw (marked c) (applicable _ _ (eqb (number (start .args .mark)) 1) (passes-within _ (start .pre)) (numbers told .job .high))
 
+concerned-requires : tie.Need-concerned-requires
+concerned-requires c κs =
+    let told = c .before .before .before .before in
+    let start = told .before .before .before in
+    let valid = eqb (number (start .args .mark)) 1 in
+    let fact = cond valid (Facts.Valid (number (start .args .job))) (Facts.Invalid (number (start .args .job))) in
+    let known = applicable _ _ valid (passes-within _ (start .pre)) (numbers told .job .high) .known in
+    rw (marked (c .before)) (known-more (passes-within _ (start .pre) .limits .jobs) (factOf fact) known)
+
 settle-requires : tie.Need-settle-requires
 settle-requires c κs =
-    let told = c .before .before .before .before in
+    let told = c .before .before .before .before .before in
     let pre = told .before .before .before .pre in
-    (pre, raw-within _ _ pre (let-pass told) _ (shows c))
+    (pre, raw-within _ _ pre (let-pass told) _ (shows (c .before)))
 
 returns : tie.Need-returns
 returns c =
@@ -111,9 +121,9 @@ returns c =
 
 returns-2 : tie.Need-returns-2
 returns-2 c =
-    let told = c .before .before .before .before .before in
+    let told = c .before .before .before .before .before .before in
     c .settle .ensures
-    ∙ concluded-enter _ _ (told .before .before .before .pre) (let-pass told) (c .before .update .result) (shows (c .before))
+    ∙ concluded-enter _ _ (told .before .before .before .pre) (let-pass told) (c .before .before .update .result) (shows (c .before .before))
 
 pub mark-spec : {M : Type 1} → statement M
 mark-spec =
@@ -127,6 +137,7 @@ mark-spec =
     mark-value-requires
     marking-requires
     update-requires
+    concerned-requires
     settle-requires
     returns
     returns-2)

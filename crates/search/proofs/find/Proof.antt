@@ -1,4 +1,5 @@
 -- `search::find` meets its contract: the pairs and then the jobs are all that the rules speak of. Assumes nothing.
+use borrow.Author.Needs.{needs}
 use mathlib.Core.Path.{refl, ap, _∙_}
 use Rattle.words.specs.Bit.{bit}
 use Rattle.board.specs.declared.Board.{Board}
@@ -8,7 +9,6 @@ use Rattle.energy.specs.Exact.{times-within, lengths-within}
 use Rattle.limits.specs.Marked.{bit-valid, bit-live}
 use Rattle.rules.specs.Values.{inferredOf}
 use Rattle.search.specs.PairsWalk.{Read, jobs-searched}
-use borrow.Author.Needs.{needs}
 use Rattle.search.proofs.find.Statement.{statement}
 use Rattle.search.proofs.find.Tie as tie
 
@@ -19,8 +19,11 @@ marked-requires : tie.Need-marked-requires
 marked-requires c κs = search needs
 
 -- from a place of the code to those before it: the words of live and of valid jobs, and the entry
-abbrev words-of : tie.After-at-pairs → tie.After-b3
+abbrev words-of : tie.After-at-first → tie.After-b3
 words-of c = c .before .before .before .before .before .before
+
+abbrev first-of : tie.After-at-pairs → tie.After-at-first
+first-of c = c .before .before .before .before .before .before .before .before .before
 
 abbrev start-of : tie.After-b3 → tie.Start
 start-of c = c .before .before .before .before .before .before .before
@@ -53,30 +56,44 @@ arrays-hold c =
     let h = start-of c .pre in
     (times-within (board-of c) h early, times-within (board-of c) h late, lengths-within (board-of c) h)
 
-at-pairs-requires : tie.Need-at-pairs-requires
-at-pairs-requires c κs = arrays-hold (c .before .before .before .before .before)
+at-first-requires : tie.Need-at-first-requires
+at-first-requires c κs = arrays-hold (c .before .before .before .before .before)
 
-enum-known-pairs : tie.Need-enum-known-pairs
-enum-known-pairs c = search needs
+enum-known-first : tie.Need-enum-known-first
+enum-known-first c = search needs
 
 returns : tie.Need-returns
 returns c =
-    let pairs = c .before .before .before in
-    rw (ap inferredOf (c .before .pairs .given .1)) at (pairs .at-pairs .ensures _ (reads (words-of pairs)))
+    let first = c .before .before .before in
+    rw (ap inferredOf (c .before .first .given .1)) at (first .at-first .ensures _ (reads (words-of first)))
 
 enum-told : tie.Need-enum-told
 enum-told c = search needs
 
-at-jobs-requires : tie.Need-at-jobs-requires
-at-jobs-requires c κs = arrays-hold (words-of (c .before .before .before .before .before .before .before .before))
+at-pairs-requires : tie.Need-at-pairs-requires
+at-pairs-requires c κs = arrays-hold (words-of (c .before .before .before .before .before .before .before .before))
+
+enum-known-pairs : tie.Need-enum-known-pairs
+enum-known-pairs c = search needs
 
 returns-2 : tie.Need-returns-2
 returns-2 c =
+    let pairs = c .before .before .before in
+    rw (ap inferredOf (c .before .pairs .given .1)) at (pairs .at-pairs .ensures _ (reads (words-of (first-of pairs))))
+
+enum-told-2 : tie.Need-enum-told-2
+enum-told-2 c = search needs
+
+at-jobs-requires : tie.Need-at-jobs-requires
+at-jobs-requires c κs = arrays-hold (words-of (first-of (c .before .before .before .before .before .before .before .before)))
+
+returns-3 : tie.Need-returns-3
+returns-3 c =
     let pairs = c .before .before .before .before .before .before .before .before .before in
-    let told = c .before .before .before .before .before .before .before .enum-told .given .1 in
-    let read = reads (words-of pairs) in
-    let settled = rw (ap inferredOf told) at (pairs .at-pairs .ensures _ read) in
-    jobs-searched _ (start-of (words-of pairs) .pre) settled (inferredOf (c .at-jobs .result)) (c .at-jobs .ensures _ read)
+    let told = c .before .before .before .before .before .before .before .enum-told2 .given .1 in
+    let words = words-of (first-of pairs) in
+    let settled = rw (ap inferredOf told) at (pairs .at-pairs .ensures _ (reads words)) in
+    jobs-searched _ (start-of words .pre) settled (inferredOf (c .at-jobs .result)) (c .at-jobs .ensures _ (reads words))
 
 pub find-spec : {M : Type 1} → statement M
 find-spec =
@@ -84,9 +101,13 @@ find-spec =
     (tie.spec
     live-requires
     marked-requires
-    at-pairs-requires
-    enum-known-pairs
+    at-first-requires
+    enum-known-first
     returns
     enum-told
+    at-pairs-requires
+    enum-known-pairs
+    returns-2
+    enum-told-2
     at-jobs-requires
-    returns-2)
+    returns-3)

@@ -9,12 +9,12 @@ use Rattle.propagation.proofs.transitivity.join.Statement.{statement}
 use Rattle.propagation.proofs.transitivity.join.Tie as tie
 
 abbrev Inv-loop : tie.InvT-loop
-Inv-loop before₀ after₀ from through left₀ before after left =
+Inv-loop before₀ after₀ from through gap left₀ before after left =
     ToCome (λ to. bit (missing after₀ from through) to ≡ true) left
     × Sound (Forth from through) before₀ after₀ before after
 
 abbrev μ-loop : tie.MeasureT-loop
-μ-loop before₀ after₀ from through left₀ before after left = left
+μ-loop before₀ after₀ from through gap left₀ before after left = left
 
 mul-without : tie.Need-mul-without Inv-loop μ-loop
 mul-without c = search needs

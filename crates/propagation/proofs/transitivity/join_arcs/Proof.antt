@@ -1,32 +1,21 @@
 -- `propagation::transitivity::join_arcs` meets its contract: one valid job after the other. Assumes nothing.
 use borrow.Author.Needs.{needs}
-use mathlib.Core.Path.{sym, ap, _∙_}
+use mathlib.Core.Path.{_≡_}
+use mathlib.Core.Bool.{true}
 use Rattle.words.specs.Bit.{bit}
-use Rattle.board.specs.Paper.View.{Valid, view}
-use Rattle.board.specs.Tests.Decides.{valid-is}
-use Rattle.limits.specs.Marked.{bit-valid}
-use Rattle.propagation.specs.Reaches.{Reached, reached-self}
-use Rattle.propagation.specs.Arcs.{withArcs, ToCome, to-come, fewer, sound-reached}
-use Rattle.propagation.specs.Transitivity.{Through}
+use Rattle.propagation.specs.Arcs.{ToCome, to-come, fewer, Sound, sound-none}
+use Rattle.propagation.specs.Transitivity.{AllValid, through-joined}
 use Rattle.propagation.proofs.transitivity.join_arcs.Statement.{statement}
 use Rattle.propagation.proofs.transitivity.join_arcs.Tie as tie
 
 abbrev Inv-loop : tie.InvT-loop
-Inv-loop b before₀ after₀ left₀ before after left = ToCome (Valid (view b)) left × Reached b (withArcs b before after)
+Inv-loop before₀ after₀ valid found₀ left₀ before after found left = ToCome (λ x. bit valid x ≡ true) left × Sound (AllValid valid) before₀ after₀ before after
 
 abbrev μ-loop : tie.MeasureT-loop
-μ-loop b before₀ after₀ left₀ before after left = left
-
-marked-requires : tie.Need-marked-requires Inv-loop μ-loop
-marked-requires c κs = search needs
+μ-loop before₀ after₀ valid found₀ left₀ before after found left = left
 
 loop-holds : tie.Need-loop-holds Inv-loop μ-loop
-loop-holds c =
-    let start = c .before .before .before .before .before in
-    let b = start .args .t1 in (
-      to-come (c .marked .ok) (λ x e. valid-is (view b) x .yes (sym (ap (λ w. bit w x) (c .marked .ensures) ∙ bit-valid b x) ∙ e)),
-      reached-self b (start .pre),
-    )
+loop-holds c = (to-come (c .fits .valid .fits) (λ x e. e), sound-none (AllValid _) _ _)
 
 lowest-requires : tie.Need-lowest-requires Inv-loop μ-loop
 lowest-requires c κs = search needs
@@ -37,23 +26,27 @@ without-requires c κs = search needs
 mul-sources : tie.Need-mul-sources Inv-loop μ-loop
 mul-sources c = search needs
 
-array-read-sources : tie.Need-array-read-sources Inv-loop μ-loop
-array-read-sources c = search needs
+element-copy-out-sources : tie.Need-element-copy-out-sources Inv-loop μ-loop
+element-copy-out-sources c = search needs
 
 join-through-requires : tie.Need-join-through-requires Inv-loop μ-loop
 join-through-requires c κs = search needs
 
+union-requires : tie.Need-union-requires Inv-loop μ-loop
+union-requires c κs = search needs
+
 loop-less : tie.Need-loop-less Inv-loop μ-loop
 loop-less c =
-    let walk = c .before .before .before in
+    let walk = c .before .before .before .before .before in
     fewer (walk .before .before .before .loop .inv .0) (walk .before .lowest .ensures) (walk .without .ensures) .1
 
 loop-again : tie.Need-loop-again Inv-loop μ-loop
 loop-again c =
-    let walk = c .before .before .before in
-    let (left, reached) = walk .before .before .before .loop .inv in
+    let joined = c .before in
+    let walk = joined .before .before .before .before in
+    let (left, run) = walk .before .before .before .loop .inv in
     let low = walk .before .lowest .ensures in
-    (fewer left low (walk .without .ensures) .0, sound-reached (Through _) _ _ _ _ _ reached (left .member _ (low .member)) (c .join-through .ensures))
+    (fewer left low (walk .without .ensures) .0, through-joined _ _ _ _ _ run _ (left .member _ (low .member)) _ _ (joined .join-through .ensures))
 
 returns : tie.Need-returns Inv-loop μ-loop
 returns c = c .before .loop .inv .1
@@ -64,13 +57,13 @@ join-arcs-spec =
     (tie.spec
     Inv-loop
     μ-loop
-    marked-requires
     loop-holds
     lowest-requires
     without-requires
     mul-sources
-    array-read-sources
+    element-copy-out-sources
     join-through-requires
+    union-requires
     loop-less
     loop-again
     returns)

@@ -9,11 +9,10 @@ use Rattle.propagation.proofs.transitivity.join_through.Statement.{stat
 use Rattle.propagation.proofs.transitivity.join_through.Tie as tie
 
 abbrev Inv-loop : tie.InvT-loop
-Inv-loop before₀ after₀ sources through left₀ before after left =
-    ToCome (λ from. bit sources from ≡ true) left × Sound (Through through) before₀ after₀ before after
+Inv-loop before₀ after₀ sources through found₀ left₀ before after found left = ToCome (λ from. bit sources from ≡ true) left × Sound (Through through) before₀ after₀ before after
 
 abbrev μ-loop : tie.MeasureT-loop
-μ-loop before₀ after₀ sources through left₀ before after left = left
+μ-loop before₀ after₀ sources through found₀ left₀ before after found left = left
 
 loop-holds : tie.Need-loop-holds Inv-loop μ-loop
 loop-holds c = (to-come (c .fits .sources .fits) (λ x e. e), sound-none (Through _) _ _)
@@ -27,19 +26,26 @@ without-requires c κs = search needs
 join-requires : tie.Need-join-requires Inv-loop μ-loop
 join-requires c κs = search needs
 
+ends-requires : tie.Need-ends-requires Inv-loop μ-loop
+ends-requires c κs = search needs
+
+union-requires : tie.Need-union-requires Inv-loop μ-loop
+union-requires c κs = search needs
+
 loop-less : tie.Need-loop-less Inv-loop μ-loop
 loop-less c =
-    let walk = c .before .before .before in
+    let walk = c .before .before .before .before .before in
     fewer (walk .before .before .before .loop .inv .0) (walk .before .lowest .ensures) (walk .without .ensures) .1
 
 loop-again : tie.Need-loop-again Inv-loop μ-loop
 loop-again c =
-    let walk = c .before .before .before in
+    let joined = c .before .before in
+    let walk = joined .before .before .before in
     let at = walk .before .before .before in
     let (left, run) = at .loop .inv in
     let low = walk .before .lowest .ensures in
     let member = rw (at .before .pre .1) at (left .member _ (low .member)) in
-    (fewer left low (walk .without .ensures) .0, row-joined _ _ _ _ _ run _ member _ _ (c .join .ensures))
+    (fewer left low (walk .without .ensures) .0, row-joined _ _ _ _ _ run _ member _ _ (joined .join .ensures))
 
 returns : tie.Need-returns Inv-loop μ-loop
 returns c = c .before .loop .inv .1
@@ -54,6 +60,8 @@ join-through-spec =
     lowest-requires
     without-requires
     join-requires
+    ends-requires
+    union-requires
     loop-less
     loop-again
     returns)

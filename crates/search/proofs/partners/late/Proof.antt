@@ -1,6 +1,6 @@
 -- `search::partners::late` meets its contract. The loop's invariant: those passed end in time. The measure is the word of what is
 -- left. Assumes nothing.
-use mathlib.Core.Path.{_≡_, sym, _∙_}
+use mathlib.Core.Path.{sym, _∙_}
 use mir.Syntax.{w32}
 use mir.Val.{toZ, ofZ}
 use mir.ValLaws.{toZ-ofZ}

@@ -1,6 +1,4 @@
 -- `search::partners::ordered` meets its contract: nothing is late, or the late ones of those to test. Assumes nothing.
-use mathlib.Core.Path.{_∙_}
-use mir.Syntax.{w32}
 use mir.ValLaws.{toZ-ofZ}
 use Rattle.minutes.specs.Linear.{whole}
 use Rattle.search.specs.Partners.{none-ordered, late-ordered}
