@@ -43,7 +43,7 @@ bound-is b early k = refl
 bound-is b late k = refl
 
 -- valid jobs are jobs of the board, so there is nothing to add past them
-energy-is : (b : Board) → Within b → (S : ℕ → Bool) → ((k : ℕ) → S k ≡ true → Valid (view b) k)
+pub energy-is : (b : Board) → Within b → (S : ℕ → Bool) → ((k : ℕ) → S k ≡ true → Valid (view b) k)
     → total jobLimit S (lengthAt (b .lengths)) ≡ energy (view b) S
 energy-is b h S valid = total-more (b .jobs) jobLimit S (lengthAt (b .lengths)) (h .limits .jobs) λ k l. is-false _ λ e.
     omega (arith, valid k e .0)
@@ -69,17 +69,21 @@ module _ (b : Board) (h : Within b) (s : Side) (j w : ℕ) where
         is = cc (p .is, bound-is b s (p .first), energy-is b h (p .set) (λ k e. valid k e .0));
       }
 
-module _ (b : Board) (h : Within b) (s : Side) (j w : ℕ) (members : (k : ℕ) → Decides (bit w k) (Valid (view b) k × Beyond (view b) s k j)) where
-  beyond-sum : (z : ℤ) → SumBeyond (view b) s j z → Sum s (timesOf b s) (b .lengths) w z
-  beyond-sum z p =
+  -- and back, where the set is one of the word w
+  pub sum-of : (z : ℤ) (p : SumBeyond (view b) s j z) → ((k : ℕ) → p .set k ≡ true → bit w k ≡ true) → Sum s (timesOf b s) (b .lengths) w z
+  sum-of z p inside =
       record {
         set = p .set;
-        inside = λ k e. members k .show (p .beyond k e);
+        inside = inside;
         first = p .first;
         member = p .member;
         least = λ k e. omega (whole, p .least k e, bound-is b s (p .first), bound-is b s k);
         is = cc (p .is, bound-is b s (p .first), energy-is b h (p .set) (λ k e. p .beyond k e .0));
       }
+
+module _ (b : Board) (h : Within b) (s : Side) (j w : ℕ) (members : (k : ℕ) → Decides (bit w k) (Valid (view b) k × Beyond (view b) s k j)) where
+  beyond-sum : (z : ℤ) → SumBeyond (view b) s j z → Sum s (timesOf b s) (b .lengths) w z
+  beyond-sum z p = sum-of b h s j w z p λ k e. members k .show (p .beyond k e)
 
   pub exceeds-beyond : (low : ℤ) (o : Option ℤ) → Exceeds (Sum s (timesOf b s) (b .lengths) w) low o → Exceeds (SumBeyond (view b) s j) low o
   exceeds-beyond = exceeds-same _ _ (sum-beyond b h s j w λ k e. members k .yes e) beyond-sum

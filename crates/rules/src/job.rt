@@ -4,6 +4,7 @@ use board::Board;
 use board::facts::Fact;
 use board::facts::Side;
 use energy::EnergyBound;
+use energy::ends_by;
 use energy::energy_bound;
 use energy::single_bound;
 use windows::Window;
@@ -14,10 +15,9 @@ ghost use Prim.Native.Nat.{_<_};
 ghost use Rattle.words.specs.Bit.{bit};
 ghost use Rattle.board.specs.Paper.Limits.{jobLimit};
 ghost use Rattle.board.specs.Paper.Values.{sideOf};
-ghost use Rattle.board.specs.Tests.Decides.{Decides};
 ghost use Rattle.energy.specs.Energy.{boundOf, Times, Lengths};
 ghost use Rattle.rules.specs.Values.{inferredOf};
-ghost use Rattle.rules.specs.BoundBeyond.{OthersBeyond, BoundBeyond};
+ghost use Rattle.rules.specs.BoundBeyond.{Apart, BoundBeyond};
 ghost use Rattle.rules.specs.JobSearched.{SideSearched, JobSearched};
 
 // A last job of the set: one with none of the others on its opposite side. Where each has one, as on a cycle, any job will do.
@@ -36,16 +36,17 @@ pub fn last(set: u64, opposite: &[u64; Board::JOBS]) -> usize
     k
 }
 
-// Is each job of the set but k in k's word?
-fn others_beyond(set: u64, k: usize, word: u64) -> bool
+// The jobs of the set but k that are not in k's word.
+fn standing_apart(set: u64, k: usize, word: u64) -> u64
     requires { ⌜ k < jobLimit ⌝ }
-    ensures { λ r. ⌜ Decides r (OthersBeyond set k word) ⌝ }
+    ensures { λ r. ⌜ Apart set k word r ⌝ }
 {
-    words::difference(words::without(set, k), word) == 0
+    words::difference(words::without(set, k), word)
 }
 
 // R4 and R5: the bound that the valid jobs beyond a job on one side leave to it, where it is above its own. `times` and `beyond` are
-// those of that side. Where all others of these jobs lie beyond the last one, and its bound stands, it alone decides.
+// those of that side. Most of these jobs lie beyond a last one, whose bound has room for them already: where none stands apart it
+// alone decides, and where few do they seldom push the job.
 pub fn bound_beyond<'a>(
     side: Side,
     job: usize,
@@ -63,8 +64,12 @@ pub fn bound_beyond<'a>(
         return EnergyBound::Unbounded;
     }
     let k = last(set, opposite);
-    if others_beyond(set, k, beyond[k]) {
+    let apart = standing_apart(set, k, beyond[k]);
+    if apart == 0 {
         return single_bound(side, times, lengths, k, times[job]);
+    }
+    if ends_by(side, times, lengths, k, apart, times[job]) {
+        return EnergyBound::Unbounded;
     }
     energy_bound(side, times, lengths, set, times[job])
 }
