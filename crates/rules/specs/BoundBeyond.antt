@@ -35,7 +35,7 @@ pub record LastUnder (s : Side) (times lengths : List ℤ) (beyond : List ℕ) (
 
 -- What an answer says of the jobs w beyond job j. A bound is a sum above j's own. Where there is none, no sum is above it, or the last
 -- one's end is not: that suffices once it is known of the last one too (see `Settled`).
-abbrev Says : Side → List ℤ → List ℤ → List ℕ → ℕ → ℕ → Option ℤ → Type 0
+abbrev pub Says : Side → List ℤ → List ℤ → List ℕ → ℕ → ℕ → Option ℤ → Type 0
 Says s times lengths beyond w j none =
     ((z : ℤ) → Sum s times lengths w z → z ≤ℤ boundAt s times j) ⊎ LastUnder s times lengths beyond w j
 Says s times lengths beyond w j (some z) = Pushes s times lengths w j (some z)
@@ -52,26 +52,25 @@ apart-is n w k word fw fo l x =
     retested (bit-difference n (without n w k) word x (without-lt n w k fw) fo)
     (retested (bit-without n w k x fw l) (holds (bit w x) and negated (eq k x)) and negated (holds (bit word x)))
 
--- what the code finds of the word w, which holds these jobs
-module _ (s : Side) (times lengths : List ℤ) (beyond : List ℕ) (valids j w : ℕ) (is : w ≡ pushing beyond valids j) where
-  said : (o : Option ℤ) → Says s times lengths beyond w j o → BoundBeyond s times lengths beyond valids j o
-  said o = subst (λ x. Says s times lengths beyond x j o) is
-
-  pub none-beyond : w ≡ 0 → BoundBeyond s times lengths beyond valids j none
-  none-beyond e = said none (inl λ z p. absurd (refuted (ap (λ x. bit x (p .first)) e ∙ bit-zero (p .first)) (p .inside (p .first) (p .member))))
+-- what the code finds of the word w
+module _ (s : Side) (times lengths : List ℤ) (beyond : List ℕ) (j w : ℕ) where
+  none-there : w ≡ 0 → Says s times lengths beyond w j none
+  none-there e = inl λ z p. absurd (refuted (ap (λ x. bit x (p .first)) e ∙ bit-zero (p .first)) (p .inside (p .first) (p .member)))
 
   module _ (k rest : ℕ) (place : k < jobLimit) (member : bit w k ≡ true) (apart : Apart w k (getD beyond k 0) rest) where
     -- the last one with those that stand apart
-    pub last-ends-by : EndsBy s times lengths k rest (boundAt s times j) → BoundBeyond s times lengths beyond valids j none
-    last-ends-by ends = said none (inr (record { last = k; member = member; rest = rest; apart = apart; ends = ends }))
+    pub last-ends-by : EndsBy s times lengths k rest (boundAt s times j) → Says s times lengths beyond w j none
+    last-ends-by ends = inr (record { last = k; member = member; rest = rest; apart = apart; ends = ends })
 
     -- the last one alone, where none stands apart
-    pub last-beyond : rest ≡ 0 → BoundBeyond s times lengths beyond valids j (over (boundAt s times j) (endAt s times lengths k))
-    last-beyond none-apart =
+    pub last-alone : rest ≡ 0 → Says s times lengths beyond w j (over (boundAt s times j) (endAt s times lengths k))
+    last-alone none-apart =
         let end = endAt s times lengths k in
-        by-test (BoundBeyond s times lengths beyond valids j) (ltZ (boundAt s times j) end) (some end) none
-        (λ e. said (some end) (single s times lengths w k place member, omega whole))
-        (λ e. last-ends-by (record {
+        by-test (Says s times lengths beyond w j) (ltZ (boundAt s times j) end) (some end) none
+        (λ e. (single s times lengths w k place member, omega whole))
+        (λ e.
+        last-ends-by
+        (record {
           together = omega (whole, load-none lengths rest none-apart, plus end (load lengths rest));
           sums = λ z p. absurd (no-member (p .first) (p .inside (p .first) (p .member)));
         }))
@@ -80,6 +79,14 @@ module _ (s : Side) (times lengths : List ℤ) (beyond : List ℕ) (valids j w :
         no-member x = refuted (ap (λ y. bit y x) none-apart ∙ bit-zero x)
 
   -- all sums
-  pub sums-beyond : (o : Option ℤ) → Exceeds (Sum s times lengths w) (boundAt s times j) o → BoundBeyond s times lengths beyond valids j o
-  sums-beyond none h = said none (inl h)
-  sums-beyond (some z) ((sum, _), above) = said (some z) (sum, above)
+  pub all-sums : (o : Option ℤ) → Exceeds (Sum s times lengths w) (boundAt s times j) o → Says s times lengths beyond w j o
+  all-sums none h = inl h
+  all-sums (some z) ((sum, _), above) = (sum, above)
+
+-- where the word w holds these jobs
+module _ (s : Side) (times lengths : List ℤ) (beyond : List ℕ) (valids j w : ℕ) (is : w ≡ pushing beyond valids j) where
+  pub said : (o : Option ℤ) → Says s times lengths beyond w j o → BoundBeyond s times lengths beyond valids j o
+  said o = subst (λ x. Says s times lengths beyond x j o) is
+
+  pub none-beyond : w ≡ 0 → BoundBeyond s times lengths beyond valids j none
+  none-beyond e = said none (none-there s times lengths beyond j w e)

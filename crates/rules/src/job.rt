@@ -17,7 +17,7 @@ ghost use Rattle.board.specs.Paper.Limits.{jobLimit};
 ghost use Rattle.board.specs.Paper.Values.{sideOf};
 ghost use Rattle.energy.specs.Energy.{boundOf, Times, Lengths};
 ghost use Rattle.rules.specs.Values.{inferredOf};
-ghost use Rattle.rules.specs.BoundBeyond.{Apart, BoundBeyond};
+ghost use Rattle.rules.specs.BoundBeyond.{Apart, Says, BoundBeyond};
 ghost use Rattle.rules.specs.JobSearched.{SideSearched, JobSearched};
 
 // A last job of the set: one with none of the others on its opposite side. Where each has one, as on a cycle, any job will do.
@@ -44,9 +44,33 @@ fn standing_apart(set: u64, k: usize, word: u64) -> u64
     words::difference(words::without(set, k), word)
 }
 
+// The bound that a set of jobs, all beyond `job` on one side, leaves to it, where it is above its own. Most of them lie beyond a last
+// one, whose bound has room for them already: where none stands apart it alone decides, and where few do they seldom push the job.
+fn bound_of<'a>(
+    side: Side,
+    job: usize,
+    set: u64,
+    times: &'a [i32; Board::JOBS],
+    lengths: &'a [i32; Board::JOBS],
+    beyond: &'a [u64; Board::JOBS],
+    opposite: &'a [u64; Board::JOBS],
+) -> EnergyBound
+    requires { ⌜ (job < jobLimit) × (set ≢ 0) × Times (now times) × Lengths (now lengths) ⌝ }
+    ensures { λ r. ⌜ Says (sideOf side) (now (times .entry)) (now (lengths .entry)) (now (beyond .entry)) set job (boundOf (sideOf side) r) ⌝ }
+{
+    let k = last(set, opposite);
+    let apart = standing_apart(set, k, beyond[k]);
+    if apart == 0 {
+        return single_bound(side, times, lengths, k, times[job]);
+    }
+    if ends_by(side, times, lengths, k, apart, times[job]) {
+        return EnergyBound::Unbounded;
+    }
+    energy_bound(side, times, lengths, set, times[job])
+}
+
 // R4 and R5: the bound that the valid jobs beyond a job on one side leave to it, where it is above its own. `times` and `beyond` are
-// those of that side. Most of these jobs lie beyond a last one, whose bound has room for them already: where none stands apart it
-// alone decides, and where few do they seldom push the job.
+// those of that side.
 pub fn bound_beyond<'a>(
     side: Side,
     job: usize,
@@ -63,15 +87,7 @@ pub fn bound_beyond<'a>(
     if set == 0 {
         return EnergyBound::Unbounded;
     }
-    let k = last(set, opposite);
-    let apart = standing_apart(set, k, beyond[k]);
-    if apart == 0 {
-        return single_bound(side, times, lengths, k, times[job]);
-    }
-    if ends_by(side, times, lengths, k, apart, times[job]) {
-        return EnergyBound::Unbounded;
-    }
-    energy_bound(side, times, lengths, set, times[job])
+    bound_of(side, job, set, times, lengths, beyond, opposite)
 }
 
 // What the valid jobs on one side of a job infer of its window.
