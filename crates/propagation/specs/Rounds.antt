@@ -82,11 +82,31 @@ module _ (b : Board) (live valids : ℕ) (earliest latest : List ℤ) (before af
       on earliest times before after (run at (h .reached .more .within)
       (record { is-fixed = refl; is-lengths = refl; is-beyond = refl; sound = h .sound }))
 
+-- where a round leads, from any board
+abbrev pub Onward : ℕ → ℕ → List ℤ → List ℤ → List ℤ → List ℕ → List ℕ → List ℤ → List ℤ → List ℕ → List ℕ → Type 0
+Onward live valids lengths earliest latest before after earliest' latest' before' after' =
+    (b : Board) → b .lengths ≡ lengths → Rounds b live valids earliest latest before after → Rounds b live valids earliest' latest' before' after'
+
+-- the arcs, then the windows on either side
+pub one-round : (live valids : ℕ) (lengths earliest latest : List ℤ) (before after before' after' : List ℕ) (earliest' latest' : List ℤ)
+    → Sound (Marked live valids earliest latest lengths) before after before' after'
+    → Raises early (Reads early latest lengths before' valids) earliest earliest'
+    → Raises late (Reads late earliest' lengths after' valids) latest latest'
+    → Onward live valids lengths earliest latest before after earliest' latest' before' after'
+one-round live valids lengths earliest latest before after before' after' earliest' latest' arcs raised lowered b same h =
+    let joined = round-arcs b live valids earliest latest before after h before' after' (rw (← same) at arcs) in
+    let up = round-early b live valids earliest latest before' after' joined earliest' (rw (← same) at raised) in
+    round-late b live valids earliest' latest before' after' up latest' (rw (← same) at lowered)
+
+module _ (b : Board) (live valids : ℕ) (earliest latest : List ℤ) (before after : List ℕ) (h : Rounds b live valids earliest latest before after) where
+  abbrev here : Board
+  here = tabled b earliest latest before after
+
   pub early-times : Times earliest
-  early-times = times-within at (h .reached .more .within) early
+  early-times = times-within here (h .reached .more .within) early
 
   pub late-times : Times latest
-  late-times = times-within at (h .reached .more .within) late
+  late-times = times-within here (h .reached .more .within) late
 
   pub work : Lengths (b .lengths)
-  work = lengths-within at (h .reached .more .within)
+  work = lengths-within here (h .reached .more .within)

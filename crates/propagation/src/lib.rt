@@ -1,6 +1,7 @@
 // Propagation: each rule applied where something may have changed, and from there on as far as it leads. It is sound and need not be
 // complete: it leaves the search little to find.
 use crate::detection::detect_arcs;
+use crate::precedence::Pushed;
 use crate::precedence::push;
 use crate::transitivity::join_arcs;
 use board::Board;
@@ -11,7 +12,7 @@ ghost use Rattle.board.specs.Paper.Limits.{Within};
 ghost use Rattle.energy.specs.Energy.{Times, Lengths};
 ghost use Rattle.propagation.specs.Reaches.{Reached};
 ghost use Rattle.propagation.specs.Arcs.{Sound};
-ghost use Rattle.propagation.specs.Rounds.{Marked};
+ghost use Rattle.propagation.specs.Rounds.{Marked, Onward};
 
 pub mod arcs;
 pub mod detection;
@@ -42,18 +43,59 @@ fn set_arcs<'a>(
     words::union(detected, join_arcs(before, after, through))
 }
 
+// One round: the arcs before the windows, since the windows move along them.
+fn round(
+    earliest: &mut [i32; Board::JOBS],
+    latest: &mut [i32; Board::JOBS],
+    before: &mut [u64; Board::JOBS],
+    after: &mut [u64; Board::JOBS],
+    lengths: &[i32; Board::JOBS],
+    live: u64,
+    valid: u64,
+    due: u64,
+) -> Pushed
+    requires { ⌜ Times (now earliest) × Times (now latest) × Lengths (now lengths) ⌝ }
+    ensures { λ r. ⌜ Onward live valid (now (lengths .entry)) (now (earliest .entry)) (now (latest .entry)) (now (before .entry)) (now (after .entry)) (now (earliest .exit)) (now (latest .exit)) (now (before .exit)) (now (after .exit)) ⌝ }
+{
+    let arcs = set_arcs(before, after, due, live, valid, earliest, latest, lengths);
+    let raised = push(
+        Side::Early,
+        earliest,
+        latest,
+        lengths,
+        before,
+        after,
+        valid,
+        arcs,
+    );
+    let lowered = push(
+        Side::Late,
+        latest,
+        earliest,
+        lengths,
+        after,
+        before,
+        valid,
+        arcs,
+    );
+    Pushed {
+        moved: words::union(raised.moved, lowered.moved),
+        stuck: words::union(raised.stuck, lowered.stuck),
+    }
+}
+
 // The board, and a job that no longer fits its window, where there is one.
 pub struct Propagated {
     pub board: Board,
     pub stuck: u64,
 }
 
-// The jobs that are due next: none where one is stuck.
-fn onward(moved: u64, stuck: u64) -> u64 {
-    if stuck == 0 { moved } else { 0 }
+// The jobs that are due next: those that moved, and none where one is stuck.
+fn next_round(last: Pushed) -> u64 {
+    if last.stuck == 0 { last.moved } else { 0 }
 }
 
-// In each round the arcs before the windows, since the windows move along them; then the jobs whose windows moved are due.
+// Round after round, from the jobs that are due.
 pub fn propagate(b: Board, due: u64) -> Propagated
     requires { ⌜ Within b ⌝ }
     ensures { λ r. ⌜ Reached b (r .board) ⌝ }
@@ -70,38 +112,18 @@ pub fn propagate(b: Board, due: u64) -> Propagated
         if left == 0 {
             break;
         }
-        let arcs = set_arcs(
+        let last = round(
+            &mut earliest,
+            &mut latest,
             &mut before,
             &mut after,
-            left,
+            &b.lengths,
             live,
             valid,
-            &earliest,
-            &latest,
-            &b.lengths,
+            left,
         );
-        let raised = push(
-            Side::Early,
-            &mut earliest,
-            &latest,
-            &b.lengths,
-            &before,
-            &after,
-            valid,
-            arcs,
-        );
-        let lowered = push(
-            Side::Late,
-            &mut latest,
-            &earliest,
-            &b.lengths,
-            &after,
-            &before,
-            valid,
-            arcs,
-        );
-        stuck = words::union(raised.stuck, lowered.stuck);
-        left = onward(words::union(raised.moved, lowered.moved), stuck);
+        stuck = last.stuck;
+        left = next_round(last);
     }
     let mut board = b;
     board.earliest = earliest;

@@ -1,6 +1,6 @@
 -- `propagation::propagate` meets its contract: one round after the other. The measure is the rounds that are left. Assumes nothing.
 use borrow.Author.Needs.{needs}
-use mathlib.Core.Path.{sym, ap, _∙_}
+use mathlib.Core.Path.{refl, sym, ap, _∙_}
 use Prim.Native.Nat.{_≤_, _-_}
 use native.Mathlib.Omega.{arith}
 use Rattle.words.specs.Bit.{bit}
@@ -8,7 +8,7 @@ use Rattle.board.specs.Paper.View.{view}
 use Rattle.board.specs.Tests.Decides.{live-is, valid-is}
 use Rattle.limits.specs.Marked.{bit-live, bit-valid}
 use Rattle.propagation.specs.Reaches.{reached-self}
-use Rattle.propagation.specs.Rounds.{Rounds, round-arcs, round-early, round-late, early-times, late-times, work}
+use Rattle.propagation.specs.Rounds.{Rounds, early-times, late-times, work}
 use Rattle.propagation.proofs.propagate.Statement.{statement}
 use Rattle.propagation.proofs.propagate.Tie as tie
 
@@ -39,52 +39,26 @@ loop-holds c =
     in
     (omega arith, rounds)
 
-set-arcs-requires : tie.Need-set-arcs-requires Inv-loop μ-loop
-set-arcs-requires c κs =
+round-requires : tie.Need-round-requires Inv-loop μ-loop
+round-requires c κs =
     let h = c .before .before .before .before .before .before .before .before .loop .inv .1 in
-    (early-times _ _ _ _ _ _ _ h, work _ _ _ _ _ _ _ h)
-
-push-requires : tie.Need-push-requires Inv-loop μ-loop
-push-requires c κs =
-    let h = c .before .before .before .before .before .before .before .before .before .before .before .before .before .before .before .loop .inv .1 in
     (early-times _ _ _ _ _ _ _ h, late-times _ _ _ _ _ _ _ h, work _ _ _ _ _ _ _ h)
 
-push-requires-2 : tie.Need-push-requires-2 Inv-loop μ-loop
-push-requires-2 c κs =
-    let up = c .before .before .before .before .before .before in
-    let h = up .before .before .before .before .before .before .before .before .before .before .before .before .before .before .before .before .loop .inv .1 in
-    (late-times _ _ _ _ _ _ _ h, up .push .ensures .0, work _ _ _ _ _ _ _ h)
-
-union-requires : tie.Need-union-requires Inv-loop μ-loop
-union-requires c κs = search needs
-
-union-requires-2 : tie.Need-union-requires-2 Inv-loop μ-loop
-union-requires-2 c κs = search needs
-
-onward-requires : tie.Need-onward-requires Inv-loop μ-loop
-onward-requires c κs = search needs
-
--- how a round began
-abbrev begun : tie.After-onward Inv-loop μ-loop → tie.In-loop Inv-loop μ-loop
-begun c =
-    let up = c .before .before .before .before .before .before .before .before .before .before in
-    up .before .before .before .before .before .before .before .before .before .before .before .before .before .before .before
+next-round-requires : tie.Need-next-round-requires Inv-loop μ-loop
+next-round-requires c κs = search needs
 
 add-counter : tie.Need-add-counter Inv-loop μ-loop
-add-counter c = let round = begun c in record { fits = omega (arith, round .loop-test .taken) }
+add-counter c = search needs
 
 loop-less : tie.Need-loop-less Inv-loop μ-loop
-loop-less c = omega (arith, begun c .loop-test .taken)
+loop-less c = omega arith
 
 loop-again : tie.Need-loop-again Inv-loop μ-loop
 loop-again c =
-    let down = c .before .before .before in
-    let up = down .before .before .before .before .before .before .before in
-    let arcs = up .before .before .before .before .before .before .before in
-    let round = begun c in
-    let h = round-arcs _ _ _ _ _ _ _ (round .before .loop .inv .1) _ _ (arcs .set-arcs .ensures) in
-    let raised = round-early _ _ _ _ _ _ _ h _ (up .push .ensures .1) in
-    (omega (arith, round .loop-test .taken), round-late _ _ _ _ _ _ _ raised _ (down .push2 .ensures .1))
+    let led = c .before in
+    let begun = led .before .before .before .before .before .before .before .before in
+    let at = begun .before in
+    (omega (arith, begun .loop-test .taken), led .round .ensures _ refl (at .loop .inv .1))
 
 returns : tie.Need-returns Inv-loop μ-loop
 returns c = c .before .loop .inv .1 .reached
@@ -98,12 +72,8 @@ propagate-spec =
     live-requires
     marked-requires
     loop-holds
-    set-arcs-requires
-    push-requires
-    push-requires-2
-    union-requires
-    union-requires-2
-    onward-requires
+    round-requires
+    next-round-requires
     add-counter
     loop-less
     loop-again
