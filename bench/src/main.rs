@@ -27,10 +27,24 @@ fn compare(entries: &[Entry]) {
     let mut board = Board::empty();
     for (number, &entry) in entries.iter().enumerate() {
         let answer = fast.enter(entry);
-        assert_eq!(proved::enter(&mut dock, entry), answer, "entry {number}, {entry:?}");
-        assert_eq!(proved::enter(&mut board, entry), answer, "entry {number}, {entry:?}");
-        assert!(proved::as_kept(&fast) == *dock.board(), "the board after entry {number}, {entry:?}");
-        assert!(board == *dock.board(), "the board after entry {number}, {entry:?}");
+        assert_eq!(
+            proved::enter(&mut dock, entry),
+            answer,
+            "entry {number}, {entry:?}"
+        );
+        assert_eq!(
+            proved::enter(&mut board, entry),
+            answer,
+            "entry {number}, {entry:?}"
+        );
+        assert!(
+            proved::as_kept(&fast) == *dock.board(),
+            "the board after entry {number}, {entry:?}"
+        );
+        assert!(
+            board == *dock.board(),
+            "the board after entry {number}, {entry:?}"
+        );
     }
 }
 
@@ -73,7 +87,14 @@ fn print_loads() {
     println!("|---|---|---|---|---|---|---|");
     for load in &LOADS {
         let entries = (load.entries)(64);
-        let m = measured(&entries, if entries.len() > 1000 { TURNS / 5 } else { TURNS });
+        let m = measured(
+            &entries,
+            if entries.len() > 1000 {
+                TURNS / 5
+            } else {
+                TURNS
+            },
+        );
         let each = |median: Median| median.middle / entries.len() as f64;
         println!(
             "| {} | {} | {:.2} | {:.2} | {} | {:.2} | {} |",

@@ -87,6 +87,13 @@ abbrev pub Onward : ℕ → ℕ → List ℤ → List ℤ → List ℤ → List 
 Onward live valids lengths earliest latest before after earliest' latest' before' after' =
     (b : Board) → b .lengths ≡ lengths → Rounds b live valids earliest latest before after → Rounds b live valids earliest' latest' before' after'
 
+-- the arcs alone
+pub arcs-alone : (live valids : ℕ) (lengths earliest latest : List ℤ) (before after before' after' : List ℕ)
+    → Sound (Marked live valids earliest latest lengths) before after before' after'
+    → Onward live valids lengths earliest latest before after earliest latest before' after'
+arcs-alone live valids lengths earliest latest before after before' after' arcs b same h =
+    round-arcs b live valids earliest latest before after h before' after' (rw (← same) at arcs)
+
 -- the arcs, then the windows on either side
 pub one-round : (live valids : ℕ) (lengths earliest latest : List ℤ) (before after before' after' : List ℕ) (earliest' latest' : List ℤ)
     → Sound (Marked live valids earliest latest lengths) before after before' after'
@@ -94,7 +101,7 @@ pub one-round : (live valids : ℕ) (lengths earliest latest : List ℤ) (before
     → Raises late (Reads late earliest' lengths after' valids) latest latest'
     → Onward live valids lengths earliest latest before after earliest' latest' before' after'
 one-round live valids lengths earliest latest before after before' after' earliest' latest' arcs raised lowered b same h =
-    let joined = round-arcs b live valids earliest latest before after h before' after' (rw (← same) at arcs) in
+    let joined = arcs-alone live valids lengths earliest latest before after before' after' arcs b same h in
     let up = round-early b live valids earliest latest before' after' joined earliest' (rw (← same) at raised) in
     round-late b live valids earliest' latest before' after' up latest' (rw (← same) at lowered)
 

@@ -43,7 +43,21 @@ fn set_arcs<'a>(
     words::union(detected, join_arcs(before, after, through))
 }
 
-// One round: the arcs before the windows, since the windows move along them.
+// Has a job of the set arcs both ways to another?
+fn crosses<'a>(set: u64, before: &'a [u64; Board::JOBS], after: &'a [u64; Board::JOBS]) -> bool {
+    let mut left = set;
+    while left != 0 {
+        let k = words::lowest(left);
+        left = words::without(left, k);
+        if words::intersection(before[k], after[k]) != 0 {
+            return true;
+        }
+    }
+    false
+}
+
+// One round: the arcs before the windows, since the windows move along them. Where R2 applies a mark has to change first: on a cycle of valid
+// jobs the windows would move on and on.
 fn round(
     earliest: &mut [i32; Board::JOBS],
     latest: &mut [i32; Board::JOBS],
@@ -58,6 +72,9 @@ fn round(
     ensures { λ r. ⌜ Onward live valid (now (lengths .entry)) (now (earliest .entry)) (now (latest .entry)) (now (before .entry)) (now (after .entry)) (now (earliest .exit)) (now (latest .exit)) (now (before .exit)) (now (after .exit)) ⌝ }
 {
     let arcs = set_arcs(before, after, due, live, valid, earliest, latest, lengths);
+    if crosses(words::intersection(arcs, valid), before, after) {
+        return Pushed { moved: 0, stuck: 0 };
+    }
     let raised = push(
         Side::Early,
         earliest,
