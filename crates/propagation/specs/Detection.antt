@@ -9,21 +9,13 @@ use lib.ListN.{getD, set}
 use lib.Signed.{ltZ}
 use Rattle.words.specs.Bit.{bit, with, without}
 use Rattle.words.specs.BitLaws.{bit-without}
-use Rattle.minutes.specs.Linear.{whole, plus}
-use Rattle.minutes.specs.Time.{Moderate}
+use Rattle.minutes.specs.Linear.{whole}
 use Rattle.board.specs.declared.Board.{Board}
 use Rattle.board.specs.Paper.View.{Live, view}
 use Rattle.board.specs.Paper.Limits.{jobLimit}
 use Rattle.board.specs.Tests.Decides.{retested, _and_, negated, holds, eq}
 use Rattle.board.specs.Inference.Infers.{r3}
-use Rattle.energy.specs.Energy.{lengthAt, Times, Lengths}
 use Rattle.propagation.specs.Arcs.{Sound, sound-none, sound-link, sound-then}
-
--- when a job ends at the earliest is far from the ends of an i32
-pub end-moderate : {earliest lengths : List ℤ} → Times earliest → Lengths lengths → (k : ℕ) → Moderate (getD earliest k (pos 0) +ℤ lengthAt lengths k)
-end-moderate {earliest} {lengths} hours work k =
-    let sum = plus (getD earliest k (pos 0)) (lengthAt lengths k) in
-    (omega (whole, sum, hours .time k .low, work .low k), omega (whole, sum, hours .time k .high, work .high k))
 
 -- the arrays are the board's own
 pub record Read (earliest latest lengths : List ℤ) (b : Board) : Type 0 where

@@ -6,10 +6,11 @@ use lib.ListN.{getD}
 use mir.Syntax.{w32}
 use mir.Val.{SFits, toZ, ofZ}
 use mir.ValLaws.{toZ-ofZ}
-use Rattle.energy.specs.Laws.{time-fits, length-fits, length-moderate}
+use Rattle.board.specs.Paper.View.{early}
+use Rattle.energy.specs.Laws.{time-fits, length-fits, length-moderate, end-moderate}
 use Rattle.board.specs.Tests.Ranges.{time-moderate}
 use Rattle.propagation.specs.Arcs.{sound-none}
-use Rattle.propagation.specs.Detection.{Pair, detected, end-moderate}
+use Rattle.propagation.specs.Detection.{Pair, detected}
 use Rattle.propagation.proofs.detection.detect.Statement.{statement}
 use Rattle.propagation.proofs.detection.detect.Tie as tie
 
@@ -60,7 +61,7 @@ is-late-requires c κs =
     let start = sum .before .before .before in
     let (_, _, hours, work) = start .pre in
     let k = start .args .second in
-    simp (toZ-ofZ, length-fits work k) (rw (end-is sum) (end-moderate hours work (start .args .first)), length-moderate work k)
+    simp (toZ-ofZ, length-fits work k) (rw (end-is sum) (end-moderate early hours work (start .args .first)), length-moderate work k)
 
 link-requires : tie.Need-link-requires
 link-requires c κs = search needs
