@@ -1,8 +1,9 @@
 /* The bay board for C: the host keeps the board, a plain struct; the calls alter it where it is kept, or look at it there.
  *
  * Each function is proved, for every board and all numbers, to reply just what the paper says: the equations stand in
- * crates/exports/src/lib.rt and checked.rt, the replies in crates/exports/specs/Replies.antt. What C can't be held to is asked
- * of the caller: a pointer to one board that nobody else writes, or in a const call writes, until the call returns.
+ * crates/exports/src/lib.rt, the replies in crates/exports/specs/Replies.antt. What C can't be held to is asked of the caller:
+ * a pointer to one board that nobody else reads or writes, or in a const call writes, until the call returns. Each call tests
+ * the board first (check 0); calls without that test, for wrappers, are in bayboard_unchecked.h.
  *
  * Link with target/staticlib/libexports.a, which `rt staticlib exports` makes (Linux on x86-64). */
 #ifndef BAYBOARD_H
@@ -23,7 +24,8 @@ extern "C" {
 enum { BAYBOARD_UNDECIDED = 0, BAYBOARD_VALID = 1, BAYBOARD_INVALID = 2 };
 
 /* Why a call is refused. If several apply, the first is given. A refusal alters nothing, but for `impossible`, which counts
- * one in the tally. (10 and 11 belong to the text program alone.) */
+ * one in the tally. (10 and 11 belong to the text program alone.) Beside each call below stand the refusals that it has: no other
+ * number occurs (crates/exports/specs/Table.antt), and each of them does (`Demand1.met` in crates/promises/specs/Demands.antt). */
 enum {
     BAYBOARD_NO_BOARD = 0,      /* the board breaks a limit, keeps something twice that doesn't agree, or isn't closed */
     BAYBOARD_NO_FULL = 1,       /* an addition to 64 jobs */
@@ -39,7 +41,7 @@ enum {
 
 /* The board. Place k below `jobs` is job k; a place without a job holds 0 in everything. Bit k of after[i] is the arc from i to
  * k, and bit i of before[k] is the same arc. The host may read it, copy it, store it and compare it field by field; it may also
- * write it, and then every call below without `checked` in its name replies refusal 0 unless the board passes check 0. */
+ * write it, and then every call below replies refusal 0 unless the board passes check 0. */
 typedef struct {
     size_t jobs;
     int32_t lengths[BAYBOARD_JOBS];  /* minutes, 0 once invalid */
@@ -124,20 +126,6 @@ bayboard_pair_reply bayboard_pair(const bayboard *board, int32_t a, int32_t b);
 
 /* Plans all valid jobs with at most `budget` tries. Refusals 0, 9. */
 bayboard_plan_reply bayboard_plan(const bayboard *board, int32_t budget);
-
-/* The same on a board that passes check 0, which is not tested again: faster, and the same replies. THE CALLER SEES TO IT that
- * the board passes; on another nothing is promised, and a call may not be safe. A board passes that is
- * - what bayboard_empty gave,
- * - one that bayboard_passes said true of, or
- * - what any call above or below left of such a board, refused or not, where nobody else wrote it since
- * (theorems `empty-passes` and `left-passes` in crates/exports/specs/Passing.antt). */
-bayboard_reply bayboard_checked_addition(bayboard *board, int32_t length, int32_t earliest, int32_t latest, int32_t mark);
-bayboard_reply bayboard_checked_arc(bayboard *board, int32_t from, int32_t to);
-bayboard_reply bayboard_checked_mark(bayboard *board, int32_t job, int32_t mark);
-bayboard_reply bayboard_checked_cut(bayboard *board, int32_t job, int32_t earliest, int32_t latest);
-bayboard_row_reply bayboard_checked_row(const bayboard *board, int32_t job);
-bayboard_pair_reply bayboard_checked_pair(const bayboard *board, int32_t a, int32_t b);
-bayboard_plan_reply bayboard_checked_plan(const bayboard *board, int32_t budget);
 
 #ifdef __cplusplus
 }

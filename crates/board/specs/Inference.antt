@@ -3,3 +3,4 @@ pub mod Infers
 pub mod Agrees
 pub mod Forced
 pub mod OnlyEntries
+pub mod LeastClosed

@@ -1,6 +1,7 @@
 -- Document 01 as definitions: what a reader must believe. Each stands beside the sentence that it states.
 pub mod View
 pub mod Limits
+pub mod Tests
 pub mod Facts
 pub mod Rules
 pub mod Energy

@@ -64,6 +64,20 @@ fn impossible(board: Board) -> Entered
     refused(Refusal::Impossible, counted)
 }
 
+// What the closure says: acceptance, or refusal 8.
+fn conclude(board: Board, closed: Outcome, accepted: Answer) -> Entered
+    ensures { λ r. ⌜ r ≡ paper.concluded board accepted (outcomeOf closed) ⌝ }
+{
+    if !closed.possible {
+        return impossible(board);
+    }
+    let settled = closed.board;
+    Entered {
+        answer: accepted,
+        board: settled,
+    }
+}
+
 // The closure with an entry: `raw` is the board that shows it, nothing inferred yet. The jobs that it is about are `due`.
 fn settle(board: Board, raw: Outcome, due: u64, accepted: Answer) -> Entered
     requires { ⌜ (passes board ≡ true) × (raw .possible ≡ true → Within (raw .board)) ⌝ }
@@ -80,14 +94,7 @@ fn settle(board: Board, raw: Outcome, due: u64, accepted: Answer) -> Entered
         };
     }
     let closed = closure(raw.board, due);
-    if !closed.possible {
-        return impossible(board);
-    }
-    let settled = closed.board;
-    Entered {
-        answer: accepted,
-        board: settled,
-    }
+    conclude(board, closed, accepted)
 }
 
 pub fn addition(board: Board, length: i32, earliest: i32, latest: i32, mark: i32) -> Entered

@@ -8,7 +8,8 @@ use lib.Signed.{leZ, ltZ}
 use Rattle.board.specs.Paper.View.{View, Side, early, late, bound}
 use Rattle.board.specs.Paper.Facts.{Fact, is-arc, is-bound, is-invalid}
 use Rattle.board.specs.Paper.Rules.{energy}
-use Rattle.board.specs.Tests.Live.{live, valid, roomy}
+use Rattle.board.specs.Paper.Tests.{live, valid}
+use Rattle.board.specs.Tests.Live.{roomy}
 
 -- the fact, where the test holds
 unfoldable pub guard : Bool → Fact → Option Fact

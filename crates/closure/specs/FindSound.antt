@@ -6,7 +6,7 @@ use Rattle.minutes.specs.Linear.{whole}
 use Rattle.board.specs.Paper.View.{View, Live, Valid, Arc, Side, early, late, bound, Beyond}
 use Rattle.board.specs.Paper.Facts.{Fact, is-arc, is-invalid, Holds}
 use Rattle.board.specs.Inference.Infers.{Pushing, Infers, r1, r2, r3, r45, r6}
-use Rattle.board.specs.Tests.Live.{valid}
+use Rattle.board.specs.Paper.Tests.{valid}
 use Rattle.closure.specs.Find.{pushers, pushed, push, next, find}
 use Rattle.closure.specs.Search.{Finds, guard-finds, _else_, first-finds}
 use Rattle.closure.specs.FindTests.{room-is, exclude-is, order-is, join-is, pusher-is, push-is}

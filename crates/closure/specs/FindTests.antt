@@ -9,7 +9,8 @@ use lib.Signed.{ltZ, _≤ℤ_, _<ℤ_}
 use Rattle.minutes.specs.Linear.{whole}
 use Rattle.board.specs.Paper.View.{View, Live, Valid, Arc, Side, early, late, bound, Beyond}
 use Rattle.board.specs.Paper.Rules.{E, D, L}
-use Rattle.board.specs.Tests.Live.{live, valid, roomy}
+use Rattle.board.specs.Paper.Tests.{live, valid}
+use Rattle.board.specs.Tests.Live.{roomy}
 use Rattle.board.specs.Tests.Decides.{Decides, _and_, negated, holds, eq, live-is, valid-is, at-most, earlier, not-at-most}
 use Rattle.closure.specs.Find.{beyond, tooLate, joined, pushers, pushed}
 use Rattle.closure.specs.Search.{some-below}

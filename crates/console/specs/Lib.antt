@@ -1,2 +1,2 @@
 -- A text answered to its end.
-pub mod Pieces
+pub mod Buffered

@@ -6,7 +6,7 @@ ghost use mathlib.Core.Path.{_≡_};
 ghost use mathlib.Core.Bool.{true};
 ghost use Prim.Native.Nat.{_≤_};
 ghost use lib.ListN.{length};
-ghost use Rattle.text.specs.Paper.Text as paper;
+ghost use Rattle.text.specs.Pieces.{Whole};
 
 // One byte more than a text may have, so that a longer one shows.
 const ROOM: usize = text::LOAD + 1;
@@ -62,9 +62,10 @@ pub struct Served {
     pub board: Board,
 }
 
-// Answers a text, in pieces as large as the buffer.
+// Answers a text, in pieces as large as the buffer. No contract can say which bytes a write takes, so that this one speaks of the board, and
+// of pieces that are the whole output; that the next of them is in the buffer at each write is the loop's invariant (`Buffered`).
 pub fn answer(bytes: &[u8]) -> Served
-    ensures { λ r. ⌜ (r .complete ≡ true → r .board ≡ paper.answer (now (bytes .entry)) .board) ⌝ }
+    ensures { λ r. ⌜ (r .complete ≡ true → Whole (now (bytes .entry)) (r .board)) ⌝ }
 {
     let mut out = io::large_buffer();
     let first = text::start(bytes, &mut out);

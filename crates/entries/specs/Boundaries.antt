@@ -10,7 +10,7 @@ use lib.IntN.{ℤ, pos, negsuc}
 use Rattle.minutes.specs.Linear.{eqZ}
 use Rattle.board.specs.declared.Refusal.{Refusal}
 use Rattle.board.specs.Paper.Refusals.{numberOf}
-use Rattle.board.specs.Tests.Limits.{between}
+use Rattle.board.specs.Paper.Tests.{between}
 use Rattle.entries.specs.Paper.Entry.{arc, mark, cut, Entry, addition, other}
 use Rattle.entries.specs.Paper.Gate.{checks, gate}
 

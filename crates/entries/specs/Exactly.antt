@@ -1,4 +1,4 @@
--- "8 exactly when" the closure is a contradiction; and the board after a refusal.
+-- "refused as impossible exactly when that closure is a contradiction"; and the board after a refusal.
 use mathlib.Core.Path.{_≡_, refl, ap, subst}
 use mathlib.Core.Logic.{_↔_, _≢_}
 use mathlib.Core.Bool.{Bool, true, false, cond}
@@ -26,7 +26,7 @@ use Rattle.entries.specs.Answered.{by-table-middle, not-refused}
 use Rattle.entries.specs.Stepped.{enter-checked, enter-refused}
 
 -- whatever the entries are that the board shows
-outcome-exactly : (es : Entries) (b : Board) (e : Entry) (x : Entered) → Outcome es b e x → gate (checks (b .jobs) e) ≡ none
+pub outcome-exactly : (es : Entries) (b : Board) (e : Entry) (x : Entered) → Outcome es b e x → gate (checks (b .jobs) e) ≡ none
     → (replyOf (x .answer) ≡ no-number 8) ↔ Contradiction (withEntry es e)
 outcome-exactly es b e _ (by-table r h) g = clash (cc)
 outcome-exactly es b e _ (impossible h k) g = (λ q. k, λ k′. refl)

@@ -10,6 +10,7 @@ use Rattle.board.specs.Paper.Facts.{Fact, Known}
 use Rattle.board.specs.Paper.Limits.{Within}
 use Rattle.board.specs.Paper.Entries.{Admissible, Drawn, drawn, shown}
 use Rattle.board.specs.Paper.Schedules.{Placing, Schedule, Keeps}
+use Rattle.board.specs.Inference.LeastClosed.{closed-least}
 use Rattle.board.specs.Schedule.Boards.{least-keeps, contradiction-unscheduled}
 use Rattle.closure.specs.Check.{passes}
 use Rattle.closure.specs.Checked.{passes-within}
@@ -41,7 +42,7 @@ module _ (b : Board) (e : Entry) (p : passes b ≡ true) where
       ends _ (impossible g k) taken = absurd (taken 8 refl)
       ends _ (accepted g c least t) taken =
           least-keeps (withEntry (shown (view b)) e) c
-          (admissible-with (shown (view b)) e (admissible-shown b (passes-within b p)) (gate-allows (b .jobs) e g)) least
+          (admissible-with (shown (view b)) e (admissible-shown b (passes-within b p)) (gate-allows (b .jobs) e g)) (closed-least _ c least)
 
   pub handed-unscheduled : replyOf (enter b e .answer) ≡ no-number 8 → (s : Placing)
       → Schedule (withEntry (shown (view b)) e) s → ⊥

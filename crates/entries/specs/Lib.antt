@@ -13,7 +13,9 @@ pub mod Answered
 pub mod Stepped
 pub mod Later
 pub mod Played
+pub mod Tallied
 -- what follows: the order of entries does not matter, 8 exactly when, and entries without effect
+pub mod Rearranged
 pub mod Orderless
 pub mod Exactly
 pub mod Unaltered

@@ -15,7 +15,7 @@ use Rattle.entries.specs.Reached.{Reached, admissible-with, admissible-a
 use Rattle.entries.specs.Stepped.{Step, step}
 use Rattle.entries.specs.Paper.Exact.{by-table, impossible, accepted}
 use Rattle.entries.specs.Paper.Answers.{replyOf}
-use Rattle.entries.specs.Paper.Sequence.{Call, outcome, after, kept}
+use Rattle.entries.specs.Paper.Sequence.{Call, outcome, after, kept, Each}
 use Rattle.entries.specs.Paper.Sequence
 
 -- the board was reached by entries that passed the checks
@@ -57,3 +57,10 @@ played l b (c ∷ cs) h =
     let x = outcome b c in
     rw (← append-assoc l (kept (replyOf (x .answer)) (c .entry)) (Sequence.accepted (x .board) cs))
     (played (l ++ kept (replyOf (x .answer)) (c .entry)) (x .board) cs (called l b h (c .entry)))
+
+-- what holds of each board that was so reached holds of each call of a sequence
+pub each-held : (P : Board → List Entry → Call → Type 0) → ((b : Board) (l : List Entry) (c : Call) → Held l b → P b l c)
+    → (b : Board) (l : List Entry) (cs : List Call) → Held l b → Each P b l cs
+unfolding Each
+each-held P claim b l [] h = tt
+each-held P claim b l (c ∷ cs) h = (claim b l c h, each-held P claim _ _ cs (called l b h (c .entry)))

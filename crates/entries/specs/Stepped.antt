@@ -11,6 +11,7 @@ use Rattle.board.specs.Paper.Closed.{Least}
 use Rattle.board.specs.Order.Leastness.{Impossible, below-least, below-shown, impossible-contradiction}
 use Rattle.board.specs.Update.Extension.{above-self}
 use Rattle.board.specs.Inference.Agrees.{obeys-rules}
+use Rattle.board.specs.Inference.LeastClosed.{least-closed}
 use Rattle.closure.specs.Check.{passes}
 use Rattle.closure.specs.Checked.{passes-within, passes-obeys, obeys-passes}
 use Rattle.entries.specs.declared.Entered.{Entered}
@@ -49,7 +50,7 @@ module _ (es : Entries) (b : Board) (e : Entry) (r : Reached es b) where
       ends : (x : Entered) → Step es b e x → Outcome es b e x
       ends _ (by-table x g) = by-table x g
       ends _ (impossible g i) = impossible g (impossible-contradiction (withEntry es e) i)
-      ends _ (accepted g c s t) = accepted g c (reached-least (withEntry es e) c s) t
+      ends _ (accepted g c s t) = accepted g c (least-closed (withEntry es e) c (reached-least (withEntry es e) c s)) t
 
 -- a board that passes check 0 is reached by what it shows
 pub reached-shown : (b : Board) → passes b ≡ true → Reached (shown (view b)) b

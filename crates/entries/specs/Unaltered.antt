@@ -12,6 +12,7 @@ use Rattle.board.specs.Paper.View.{View, Invalid, Side, view}
 use Rattle.board.specs.Paper.Facts.{is-arc, is-bound, Holds}
 use Rattle.board.specs.Paper.Entries.{Entries, shown}
 use Rattle.board.specs.Paper.Closed.{Least}
+use Rattle.board.specs.Inference.LeastClosed.{closed-least}
 use Rattle.board.specs.Order.Laws.{holds-up}
 use Rattle.board.specs.Order.Unique.{least-unique, equal-boards}
 use Rattle.closure.specs.Check.{passes}
@@ -58,7 +59,7 @@ unaltered b s p g holds = ends (enter b (other s)) (enter-checked b (other s) p)
     ends _ (by-table r h) = clash (cc)
     ends _ (impossible h k) = absurd (k b (least .closed))
     ends _ (accepted h c l t) =
-        let same = equal-boards c b (l .closed .within) (passes-within b p) (record { same = least-unique es c b l least; tally = t }) in
+        let same = equal-boards c b (l .closed .within) (passes-within b p) (record { same = least-unique es c b (closed-least es c l) least; tally = t }) in
         λ i. record { answer = Answers.Accepted; board = same i }
 
 -- ---- repeated entries

@@ -1,4 +1,4 @@
--- What the entry calls by value hand back here, a reply in numbers and the board; and what those on a checked board ask of it.
+-- What the entry calls by value hand back here, a reply in numbers and the board; and what the unchecked calls ask of it.
 -- Assumes nothing.
 use mathlib.Core.Path.{_≡_}
 use mathlib.Core.Bool.{true}

@@ -1,4 +1,4 @@
--- Why a host may go on making the calls that ask for check 0: the empty board passes it, and so does what a call leaves of a board
+-- Why a host may go on making the unchecked calls: the empty board passes check 0, and so does what a call leaves of a board
 -- that passes, refused or not.
 use mathlib.Core.Path.{_≡_}
 use mathlib.Core.Bool.{true}

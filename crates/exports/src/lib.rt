@@ -16,8 +16,8 @@ ghost use Rattle.tries.specs.Paper.Planner as planning;
 ghost use Rattle.exports.specs.Replies.{replied, rowReply, pairReply, planReply};
 
 mod by_value;
-pub mod checked;
 pub mod replies;
+pub mod unchecked;
 
 // A board without jobs whose tally starts at 0.
 #[no_mangle]
@@ -27,7 +27,7 @@ pub extern "C" fn bayboard_empty() -> Board
     Board::empty()
 }
 
-// Does the board pass check 0? If so, the calls of `checked` may be made on it.
+// Does the board pass check 0? If so, the calls of `unchecked` may be made on it.
 #[no_mangle]
 pub extern "C" fn bayboard_passes(board: &Board) -> bool
     ensures { λ r. ⌜ r ≡ check.passes (now (board .entry)) ⌝ }

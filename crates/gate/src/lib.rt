@@ -10,7 +10,7 @@ ghost use mathlib.Core.List.{List, [], _∷_};
 ghost use lib.IntN.{pos};
 ghost use lib.Signed.{_≤ℤ_};
 ghost use Rattle.minutes.specs.Linear.{eqZ};
-ghost use Rattle.board.specs.Tests.Limits as limits;
+ghost use Rattle.board.specs.Paper.Tests as tests;
 ghost use Rattle.entries.specs.Paper.Entry as entry;
 ghost use Rattle.entries.specs.Paper.Gate as paper;
 ghost use Rattle.entries.specs.Paper.Gate.{Check, isJob, jobCheck, pairChecks, timeCheck, windowCheck, checks, budgetCheck, gate};
@@ -67,7 +67,7 @@ fn are_jobs(jobs: usize, a: i32, b: i32) -> bool
 }
 
 fn are_times(earliest: i32, latest: i32) -> bool
-    ensures { λ r. ⌜ r ≡ limits.isTime earliest && limits.isTime latest ⌝ }
+    ensures { λ r. ⌜ r ≡ tests.isTime earliest && tests.isTime latest ⌝ }
 {
     is_time(earliest) && is_time(latest)
 }

@@ -18,7 +18,8 @@ use Rattle.minutes.specs.Linear.{whole}
 use Rattle.board.specs.declared.Board.{Board}
 use Rattle.board.specs.Paper.View.{Row, view, rowOf, arcOf, arcIntoOf, Live, Arc}
 use Rattle.board.specs.Paper.Limits.{jobLimit, tallyLimit, zeroRow, RowLimits, Shape, Within}
-use Rattle.board.specs.Tests.Limits.{between, isZero, isLength, isTime, isZeroRow, fits, withinLimits}
+use Rattle.board.specs.Paper.Tests.{between, isLength, isTime}
+use Rattle.board.specs.Tests.Limits.{isZero, isZeroRow, fits, withinLimits}
 use Rattle.board.specs.Tests.Decides.{Decides, restated, same-decision, holds, negated, _and_, eq}
 use Rattle.board.specs.Tests.LimitsDecided.{decides-between, decides-zero, decides-fits, decides-zeroRow, decides-limits, past, past-row}
 use Rattle.limits.specs.Agreement.{Agree}

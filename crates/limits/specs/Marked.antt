@@ -10,7 +10,7 @@ use Rattle.words.specs.Bit.{bit, setOf}
 use Rattle.words.specs.BitLaws.{bit-setOf}
 use Rattle.board.specs.declared.Board.{Board}
 use Rattle.board.specs.Paper.View.{view}
-use Rattle.board.specs.Tests.Live.{live, valid}
+use Rattle.board.specs.Paper.Tests.{live, valid}
 
 abbrev pub marked : ℕ → List ℕ → ℕ → ℕ
 marked jobs marks mark = setOf jobs λ k. eqb (getD marks k 0) mark

@@ -14,7 +14,8 @@ use borrow.Author.Tests.{eq-eqb, ne-eqb}
 use Rattle.words.specs.Bit.{bit, width, intersection}
 use Rattle.words.specs.BitLaws.{bit-xor, bit-intersection, bit-shift, bit-left, bit-left-low, bit-kept}
 use Rattle.minutes.specs.Bools.{refuted, is-false, by-test}
-use Rattle.board.specs.Tests.Limits.{all, implies}
+use Rattle.board.specs.Paper.Tests.{implies}
+use Rattle.board.specs.Tests.Limits.{all}
 use Rattle.board.specs.Tests.Decides.{Decides, restated, holds, negated, implied, every, _and_, le, lt, eq}
 
 -- ---- masks

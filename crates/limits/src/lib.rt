@@ -9,6 +9,7 @@ ghost use mathlib.Core.Bool.{_&&_};
 ghost use Prim.Native.Nat.{_<_};
 ghost use Rattle.board.specs.Paper.Limits.{jobLimit};
 ghost use Rattle.board.specs.Tests.Decides.{Decides};
+ghost use Rattle.board.specs.Paper.Tests as tests;
 ghost use Rattle.board.specs.Tests.Limits as limits;
 ghost use Rattle.limits.specs.Limits as parts;
 
@@ -31,7 +32,7 @@ fn is_zero_row(length: i32, earliest: i32, latest: i32) -> bool
 
 // A row of a live job.
 fn fits(length: i32, earliest: i32, latest: i32) -> bool
-    ensures { λ r. ⌜ r ≡ (limits.isLength length && limits.isTime earliest && limits.isTime latest) ⌝ }
+    ensures { λ r. ⌜ r ≡ (tests.isLength length && tests.isTime earliest && tests.isTime latest) ⌝ }
 {
     is_length(length) && is_time(earliest) && is_time(latest)
 }

@@ -16,7 +16,7 @@ use Rattle.board.specs.Paper.View.{view}
 use Rattle.board.specs.Paper.Limits.{Within, IsTime, firstMinute, jobLimit}
 use Rattle.board.specs.Paper.Rules.{E, D, L}
 use Rattle.board.specs.Tests.Decides.{at-most}
-use Rattle.board.specs.Tests.Live.{valid}
+use Rattle.board.specs.Paper.Tests.{valid}
 use Rattle.board.specs.Tests.Ranges.{ranges}
 use Rattle.tries.specs.Paper.Tries.{Outcome, add, _orElse_, startAfter, inTime, ready, tries}
 use Rattle.planner.specs.Rest.{stack, here, back}

@@ -17,7 +17,7 @@ use Rattle.board.specs.Paper.View.{view}
 use Rattle.board.specs.Paper.Limits.{Within, firstMinute, jobLimit}
 use Rattle.board.specs.Paper.Rules.{L}
 use Rattle.board.specs.Tests.Decides.{holds, restated, retested}
-use Rattle.board.specs.Tests.Live.{valid}
+use Rattle.board.specs.Paper.Tests.{valid}
 use Rattle.tries.specs.Paper.Tries.{startAfter, inTime, ready, search}
 use Rattle.tries.specs.ListLaws.{none-among}
 use Rattle.tries.specs.OutcomeLaws.{add-zero, orElse-none}

@@ -16,7 +16,7 @@ use Rattle.minutes.specs.Bools.{is-true, refuted, same-tests}
 use Rattle.board.specs.declared.Board.{Board}
 use Rattle.board.specs.Paper.View.{view}
 use Rattle.board.specs.Paper.Limits.{Within, jobLimit}
-use Rattle.board.specs.Tests.Live.{valid}
+use Rattle.board.specs.Paper.Tests.{valid}
 use Rattle.tries.specs.declared.PlanAnswer.the-variants as Answers
 use Rattle.tries.specs.Paper.Lists.{among, range}
 use Rattle.tries.specs.Paper.Tries.{none, add}

@@ -18,7 +18,8 @@ use Rattle.board.specs.declared.Board.{Board}
 use Rattle.board.specs.Paper.View.{view, Arc}
 use Rattle.board.specs.Paper.Limits.{Within}
 use Rattle.board.specs.Tests.Decides.{Decides, holds, restated, retested, same-decision, negated, _and_, eq}
-use Rattle.board.specs.Tests.Live.{valid, valid-yes}
+use Rattle.board.specs.Paper.Tests.{valid}
+use Rattle.board.specs.Tests.Live.{valid-yes}
 use Rattle.tries.specs.Paper.Lists.{range, among}
 use Rattle.tries.specs.Paper.Planner.{validJobs}
 use Rattle.tries.specs.Paper.Tries.{ready, unplaced}

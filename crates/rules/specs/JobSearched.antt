@@ -17,7 +17,8 @@ use Rattle.board.specs.Paper.View.{View, Live, Valid, Side, early, late, Beyond
 use Rattle.board.specs.Paper.Limits.{Within}
 use Rattle.board.specs.Paper.Facts.{Fact, is-bound, is-invalid, Holds}
 use Rattle.board.specs.Paper.Rules.{E, D, L}
-use Rattle.board.specs.Tests.Live.{valid, roomy}
+use Rattle.board.specs.Paper.Tests.{valid}
+use Rattle.board.specs.Tests.Live.{roomy}
 use Rattle.board.specs.Tests.Decides.{Decides, retested, _and_, holds, valid-is}
 use Rattle.board.specs.Inference.Infers.{Infers, r45, r6}
 use Rattle.energy.specs.Energy.{Sum, boundAt}

@@ -5,17 +5,20 @@ use mathlib.Core.Bool.{Bool, true, false, not, _&&_}
 use mathlib.Core.Option.{Option, none, some}
 use lib.Dec.{eqb}
 use Prim.Native.Nat.{ℕ, _<_, _^_}
+use native.Mathlib.Decide.{ℕ-discrete}
 use lib.IntN.{_+ℤ_}
 use lib.Signed.{_<ℤ_, ltZ}
+use borrow.Author.Tests.{eq-eqb, ne-eqb}
 use Rattle.words.specs.Bit.{bit}
 use Rattle.words.specs.BitLaws.{bit-zero}
+use Rattle.words.specs.Walk.{trailing-lowest}
 use Rattle.minutes.specs.Bools.{is-true, refuted}
 use Rattle.board.specs.Paper.Limits.{jobLimit}
 use Rattle.board.specs.Paper.View.{View, Live, Valid, Arc}
 use Rattle.board.specs.Paper.Facts.{Fact, is-arc, is-invalid}
 use Rattle.board.specs.Paper.Rules.{E, D, L}
-use Rattle.board.specs.Tests.Live.{valid}
-use Rattle.board.specs.Tests.Decides.{Decides, retested, _and_, negated, holds, eq, valid-is, earlier}
+use Rattle.board.specs.Paper.Tests.{valid}
+use Rattle.board.specs.Tests.Decides.{Decides, retested, passed, failed, _and_, negated, holds, eq, valid-is, earlier}
 use Rattle.board.specs.Inference.Infers.{r1, r2, r3}
 use Rattle.rules.specs.Searched.{Searched, PairObeys}
 
@@ -40,6 +43,11 @@ pub record PairRead (v : View) (i k valids after before onward : ℕ) (late : Bo
 abbrev pub PairSearched : ℕ → ℕ → ℕ → ℕ → ℕ → ℕ → Bool → Option Fact → Type 0
 PairSearched i k valids after before onward late o =
     (v : View) → PairRead v i k valids after before onward late → Searched v (PairObeys v i k) o
+
+-- what the test of the pair has to say: no rule applies exactly where the pair obeys them
+abbrev pub PairTested : ℕ → ℕ → ℕ → ℕ → ℕ → ℕ → Bool → Bool → Type 0
+PairTested i k valids after before onward late t =
+    (v : View) → PairRead v i k valids after before onward late → Decides (not t) (PairObeys v i k)
 
 -- the tests of the code decide the premises of the rules
 module _ (v : View) (i k valids after before onward : ℕ) (late : Bool)
@@ -70,6 +78,9 @@ module _ (v : View) (i k valids after before onward : ℕ) (late : Bool)
 module _ (i k valids after before onward : ℕ) (late : Bool) where
   abbrev Says : Option Fact → Type 0
   Says = PairSearched i k valids after before onward late
+
+  abbrev Tested : Bool → Type 0
+  Tested = PairTested i k valids after before onward late
 
   -- R2
   pub says-exclude : (bit after k && bit before k && bit valids i) ≡ true → Says (some (is-invalid k))
@@ -103,3 +114,27 @@ module _ (i k valids after before onward : ℕ) (late : Bool) where
           order = λ ends-late. is-true (v .arc k i) λ e.
               refuted y (ordered v i k valids after before onward late h .show (ends-late, refuted e));
         }
+
+  -- where a rule applies, the pair does not obey it
+  pub tested-exclude : (bit after k && bit before k && bit valids i) ≡ true → Tested true
+  tested-exclude e v h =
+      let ((forth, back), vi) = excluded v i k valids after before onward late h .yes e in
+      failed λ obeys. obeys .exclude vi forth back
+
+  pub tested-order : (late && not (bit before k)) ≡ true → Tested true
+  tested-order e v h =
+      let (ends-late, apart) = ordered v i k valids after before onward late h .yes e in
+      failed λ obeys. apart (obeys .order ends-late)
+
+  -- where neither R2 nor R3 applies, R1 decides
+  pub tested-join : (w : ℕ) → Unjoined i k valids after onward w → (bit after k && bit before k && bit valids i) ≡ false
+      → (late && not (bit before k)) ≡ false
+      → Tested (not (eqb w 0))
+  tested-join w u x y v h = go (ℕ-discrete w 0)
+    where
+      go : Dec (w ≡ 0) → Decides (not (not (eqb w 0))) (PairObeys v i k)
+      go (yes z) = rw (eq-eqb w 0 z) (passed (says-nothing w u x y z v h))
+      go (no some-job) =
+          let low = trailing-lowest jobLimit w some-job (u .width) in
+          let ((vk, forth), ((on, ne), apart)) = joined v i k valids after before onward late h w u _ .yes (low .member) in
+          rw (ne-eqb w 0 some-job) (failed λ obeys. apart (obeys .join vk forth _ on ne))

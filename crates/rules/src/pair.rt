@@ -10,7 +10,7 @@ ghost use Rattle.words.specs.Bit.{bit};
 ghost use Rattle.minutes.specs.Time.{Moderate};
 ghost use Rattle.board.specs.Paper.Limits.{jobLimit};
 ghost use Rattle.rules.specs.Values.{inferredOf};
-ghost use Rattle.rules.specs.PairSearched.{PairSearched, Unjoined};
+ghost use Rattle.rules.specs.PairSearched.{PairSearched, PairTested, Unjoined};
 
 // R3: does k, started once i has ended, end too late?
 pub fn is_late(end: i32, length: i32, latest: i32) -> bool
@@ -47,8 +47,30 @@ fn unjoined(i: usize, k: usize, valid: u64, after: u64, onward: u64) -> u64
     0
 }
 
-// What R1, R2 and R3 infer at the pair of i and k: `after` and `before` are the sets of i, `onward` is the set after k, and
-// `late` says whether k would end too late after i.
+// Does R1, R2 or R3 apply at the pair of i and k? `after` and `before` are the sets of i, `onward` is the set after k, and `late`
+// says whether k would end too late after i.
+pub fn applies(
+    i: usize,
+    k: usize,
+    valid: u64,
+    after: u64,
+    before: u64,
+    onward: u64,
+    late: bool,
+) -> bool
+    requires { ⌜ (i < jobLimit) × (k < jobLimit) ⌝ }
+    ensures { λ r. ⌜ PairTested i k valid after before onward late r ⌝ }
+{
+    if excludes(i, k, valid, after, before) {
+        return true;
+    }
+    if orders(k, before, late) {
+        return true;
+    }
+    unjoined(i, k, valid, after, onward) != 0
+}
+
+// What R1, R2 and R3 infer at the pair, from the same numbers.
 pub fn at_pair(
     i: usize,
     k: usize,

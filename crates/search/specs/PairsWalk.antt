@@ -2,6 +2,7 @@
 -- searched, and nothing is left to infer there.
 use mathlib.Core.Path.{_≡_, ap}
 use mathlib.Core.List.{List}
+use mathlib.Core.Logic.{_≢_}
 use mathlib.Core.Option.{Option, none, some}
 use Prim.Native.Nat.{ℕ, _<_, _^_}
 use lib.IntN.{ℤ, pos, _+ℤ_}
@@ -9,16 +10,19 @@ use lib.ListN.{getD}
 use Rattle.words.specs.Bit.{bit}
 use Rattle.words.specs.Walk.{Left}
 use Rattle.minutes.specs.Bools.{refuted}
+use Rattle.minutes.specs.Time.{Moderate}
 use Rattle.board.specs.declared.Board.{Board}
 use Rattle.board.specs.Paper.View.{View, Live, view}
 use Rattle.board.specs.Paper.Facts.{Fact}
 use Rattle.board.specs.Paper.Limits.{jobLimit, Within}
-use Rattle.board.specs.Tests.Live.{live}
+use Rattle.board.specs.Paper.Tests.{live}
 use Rattle.board.specs.Tests.Decides.{Decides, retested, live-is}
 use Rattle.board.specs.Inference.Infers.{Obeys}
 use Rattle.rules.specs.JobSearched.{JobRead, JobSettled}
 use Rattle.rules.specs.JobSearched as jobs
-use Rattle.rules.specs.Searched.{Searched}
+use Rattle.rules.specs.Searched.{Searched, PairObeys}
+use Rattle.search.specs.declared.Pair.{Pair}
+use Rattle.search.specs.declared.Pair.the-variants.{None, At}
 use Rattle.search.specs.Rows.{RowRead}
 use Rattle.search.specs.Settled.{PairsSettled, RowSettled, settled-obey}
 
@@ -32,13 +36,32 @@ abbrev pub ReadSearched : (View → Type 0) → ℕ → ℕ → List ℤ → Lis
 ReadSearched Q lives valids earliest latest lengths before after o =
     (b : Board) → Read b lives valids earliest latest lengths before after → Searched (view b) (Q (view b)) o
 
+-- i and k are places of jobs, and on any board that these are read from two live jobs that don't obey the rules
+pub record AppliesAt (lives valids : ℕ) (earliest latest lengths : List ℤ) (before after : List ℕ) (i k : ℕ) : Type 0 where
+  pub first : i < jobLimit
+  pub second : k < jobLimit
+  pub applies : (b : Board) → Read b lives valids earliest latest lengths before after
+      → (PairObeys (view b) i k → ⊥) × Live (view b) i × (Live (view b) k × (i ≢ k))
+
+-- what the loop over the pairs yields: a pair at which a rule applies, or none where all pairs are settled
+abbrev pub PairFound : ℕ → ℕ → List ℤ → List ℤ → List ℤ → List ℕ → List ℕ → Pair → Type 0
+PairFound lives valids earliest latest lengths before after None =
+    (b : Board) → Read b lives valids earliest latest lengths before after → PairsSettled (view b)
+PairFound lives valids earliest latest lengths before after (At i k) = AppliesAt lives valids earliest latest lengths before after i k
+
+-- when a job ends that starts at its earliest
+pub record EarliestEnd (earliest lengths : List ℤ) (i : ℕ) (end : ℤ) : Type 0 where
+  pub is : end ≡ getD earliest i (pos 0) +ℤ getD lengths i (pos 0)
+  pub moderate : Moderate end
+
 -- where nothing is found, nothing is said
 abbrev pub Unsaid : View → Type 0
 Unsaid v = Unit
 
-pub unsaid : (v : View) (Q : Type 0) (o : Option Fact) → Searched v Q o → Searched v (Unsaid v) o
-unsaid v Q none h = tt
-unsaid v Q (some f) h = h
+-- what is said where nothing is found, in other words
+pub searched-with : (v : View) (P Q : Type 0) → (P → Q) → (o : Option Fact) → Searched v P o → Searched v Q o
+searched-with v P Q f none h = f h
+searched-with v P Q f (some _) h = h
 
 -- the rows that are left
 abbrev pub RowsLeft : View → ℕ → Type 0
@@ -87,5 +110,4 @@ row-read h i live end e =
 -- where the pairs are settled, what is found at the jobs is found in the whole view
 pub jobs-searched : (b : Board) → Within b → PairsSettled (view b) → (o : Option Fact)
     → Searched (view b) (JobsSettled (view b)) o → Searched (view b) (Obeys (view b)) o
-jobs-searched b h pairs (some f) found = found
-jobs-searched b h pairs none settled = settled-obey b h pairs (jobs.settled-obey b h settled)
+jobs-searched b h pairs = searched-with (view b) _ _ λ settled. settled-obey b h pairs (jobs.settled-obey b h settled)

@@ -1,24 +1,42 @@
 // "for every ordered pair of two live jobs": the first inference that the board doesn't show yet, if any.
+use crate::partners::ends_late;
+use crate::partners::latest_start;
+use crate::partners::partners;
 use board::Board;
 use limits::marked::live;
 use limits::marked::marked;
 use rules::Found;
 use rules::job::at_job;
+use rules::pair::applies;
 use rules::pair::at_pair;
-use rules::pair::is_late;
+ghost use Prim.Native.Nat.{_<_};
 ghost use Rattle.board.specs.Paper.View.{view};
-ghost use Rattle.board.specs.Paper.Limits.{Within};
+ghost use Rattle.board.specs.Paper.Limits.{Within, jobLimit};
 ghost use Rattle.board.specs.Inference.Infers.{Obeys};
 ghost use Rattle.energy.specs.Energy.{Times, Lengths};
 ghost use Rattle.rules.specs.Searched.{Searched};
 ghost use Rattle.rules.specs.Values.{inferredOf};
 ghost use Rattle.search.specs.Settled.{PairsSettled};
-ghost use Rattle.search.specs.PairsWalk.{ReadSearched, Unsaid, JobsSettled};
+ghost use Rattle.search.specs.PairsWalk.{ReadSearched, EarliestEnd, PairFound, Unsaid, JobsSettled};
 
 pub mod partners;
 
-// What R1, R2 and R3 infer, row by row of the pairs.
-fn at_pairs<'a>(
+// A pair of jobs at which a rule applies, where there is one.
+enum Pair {
+    None,
+    At(usize, usize),
+}
+
+// When a job ends that starts at its earliest.
+fn earliest_end(i: usize, earliest: &[i32; Board::JOBS], lengths: &[i32; Board::JOBS]) -> i32
+    requires { ⌜ (i < jobLimit) × Times (now earliest) × Lengths (now lengths) ⌝ }
+    ensures { λ r. ⌜ EarliestEnd (now (earliest .entry)) (now (lengths .entry)) i r ⌝ }
+{
+    minutes::sum(earliest[i], lengths[i])
+}
+
+// A pair at which R1, R2 or R3 applies, looked for row by row.
+fn find_pair<'a>(
     live: u64,
     valid: u64,
     earliest: &'a [i32; Board::JOBS],
@@ -26,20 +44,20 @@ fn at_pairs<'a>(
     lengths: &'a [i32; Board::JOBS],
     before: &'a [u64; Board::JOBS],
     after: &'a [u64; Board::JOBS],
-) -> Found
+) -> Pair
     requires { ⌜ Times (now earliest) × Times (now latest) × Lengths (now lengths) ⌝ }
-    ensures { λ r. ⌜ ReadSearched PairsSettled live valid (now (earliest .entry)) (now (latest .entry)) (now (lengths .entry)) (now (before .entry)) (now (after .entry)) (inferredOf r) ⌝ }
+    ensures { λ r. ⌜ PairFound live valid (now (earliest .entry)) (now (latest .entry)) (now (lengths .entry)) (now (before .entry)) (now (after .entry)) r ⌝ }
 {
-    let least = partners::latest_start(live, latest, lengths);
-    let mut found = Found::Nothing;
+    let least = latest_start(live, latest, lengths);
+    let mut found = Pair::None;
     let mut rows = live;
     'pairs: while rows != 0 {
         let i = words::lowest(rows);
         rows = words::without(rows, i);
-        let end = minutes::sum(earliest[i], lengths[i]);
+        let end = earliest_end(i, earliest, lengths);
         let into = before[i];
         let out = after[i];
-        let mut others = partners::partners(
+        let mut others = partners(
             i,
             live,
             valid,
@@ -54,15 +72,36 @@ fn at_pairs<'a>(
         while others != 0 {
             let k = words::lowest(others);
             others = words::without(others, k);
-            let late = is_late(end, lengths[k], latest[k]);
-            let pair = at_pair(i, k, valid, out, into, after[k], late);
-            if let Found::Inferred(fact) = pair {
-                found = Found::Inferred(fact);
+            let late = ends_late(k, end, latest, lengths);
+            if applies(i, k, valid, out, into, after[k], late) {
+                found = Pair::At(i, k);
                 break 'pairs;
             }
         }
     }
     found
+}
+
+// What R1, R2 or R3 infers at the first pair at which one applies.
+fn at_pairs<'a>(
+    live: u64,
+    valid: u64,
+    earliest: &'a [i32; Board::JOBS],
+    latest: &'a [i32; Board::JOBS],
+    lengths: &'a [i32; Board::JOBS],
+    before: &'a [u64; Board::JOBS],
+    after: &'a [u64; Board::JOBS],
+) -> Found
+    requires { ⌜ Times (now earliest) × Times (now latest) × Lengths (now lengths) ⌝ }
+    ensures { λ r. ⌜ ReadSearched PairsSettled live valid (now (earliest .entry)) (now (latest .entry)) (now (lengths .entry)) (now (before .entry)) (now (after .entry)) (inferredOf r) ⌝ }
+{
+    let pair = find_pair(live, valid, earliest, latest, lengths, before, after);
+    let Pair::At(i, k) = pair else {
+        return Found::Nothing;
+    };
+    let end = earliest_end(i, earliest, lengths);
+    let late = ends_late(k, end, latest, lengths);
+    at_pair(i, k, valid, after[i], before[i], after[k], late)
 }
 
 // What R4, R5 and R6 infer, job by job.

@@ -4,6 +4,9 @@ use rules::pair::is_late;
 ghost use mathlib.Core.Path.{_≡_};
 ghost use mathlib.Core.Bool.{_&&_};
 ghost use Prim.Native.Nat.{ℕ, _<_};
+ghost use lib.IntN.{pos, _+ℤ_};
+ghost use lib.ListN.{getD};
+ghost use lib.Signed.{ltZ};
 ghost use Rattle.words.specs.Bit.{bit};
 ghost use Rattle.minutes.specs.Time.{Moderate};
 ghost use Rattle.board.specs.Paper.Limits.{jobLimit};
@@ -26,6 +29,19 @@ pub fn latest_start(set: u64, latest: &[i32; Board::JOBS], lengths: &[i32; Board
     least
 }
 
+// R3: does k, started at `end`, end too late?
+pub fn ends_late(
+    k: usize,
+    end: i32,
+    latest: &[i32; Board::JOBS],
+    lengths: &[i32; Board::JOBS],
+) -> bool
+    requires { ⌜ (k < jobLimit) × Moderate end × Times (now latest) × Lengths (now lengths) ⌝ }
+    ensures { λ r. ⌜ r ≡ ltZ (getD (now (latest .entry)) k (pos 0)) (end +ℤ getD (now (lengths .entry)) k (pos 0)) ⌝ }
+{
+    is_late(end, lengths[k], latest[k])
+}
+
 // R3: the jobs of the set from the first on that would end too late after a job that ends at `end`.
 fn late(set: u64, end: i32, latest: &[i32; Board::JOBS], lengths: &[i32; Board::JOBS]) -> u64
     requires { ⌜ Moderate end × Times (now latest) × Lengths (now lengths) ⌝ }
@@ -34,7 +50,7 @@ fn late(set: u64, end: i32, latest: &[i32; Board::JOBS], lengths: &[i32; Board::
     let mut left = set;
     while left != 0 {
         let k = words::lowest(left);
-        if is_late(end, lengths[k], latest[k]) {
+        if ends_late(k, end, latest, lengths) {
             return left;
         }
         left = words::without(left, k);

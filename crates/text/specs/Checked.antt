@@ -15,7 +15,7 @@ use Rattle.board.specs.declared.Refusal.{Refusal}
 use Rattle.board.specs.Paper.Limits.{emptyBoard}
 use Rattle.board.specs.Paper.Refusals.{numberOf}
 use Rattle.board.specs.Paper.View.{View, view}
-use Rattle.board.specs.Tests.Live.{live}
+use Rattle.board.specs.Paper.Tests.{live}
 use Rattle.closure.specs.Check.{passes}
 use Rattle.closure.specs.Checked.{empty-passes}
 use Rattle.forms.specs.Paper.Forms.{formOf}

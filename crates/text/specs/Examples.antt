@@ -5,8 +5,8 @@ use Rattle.numerals.specs.Bytes.{bytes}
 use Rattle.words.specs.Bit.{bit, with, without, union, difference, singleton}
 use Rattle.minutes.specs.Linear.{eqZ}
 use Rattle.minutes.specs.Sum.{sum, count}
-use Rattle.board.specs.Tests.Limits.{all, implies, between, isZero, fits, isZeroRow, full, shape, holdsJob, holdsNothing, joinable, agrees, withinLimits}
-use Rattle.board.specs.Tests.Live.{live, valid}
+use Rattle.board.specs.Paper.Tests.{implies, between, live, valid}
+use Rattle.board.specs.Tests.Limits.{all, isZero, fits, isZeroRow, full, shape, holdsJob, holdsNothing, joinable, agrees, withinLimits}
 use Rattle.board.specs.Update.Updates.{exclude, tighten, update, _andThen_}
 use Rattle.closure.specs.Find.{guard, _orElse_, first, any, beyond, tooLate, joined, pushers, pushed, push, next, find}
 use Rattle.closure.specs.Closing.{close, closure}

@@ -9,5 +9,6 @@ pub mod Calls
 pub mod LineLaws
 pub mod Carried
 pub mod Serving
+pub mod Pieces
 pub mod Loop
 pub mod Load

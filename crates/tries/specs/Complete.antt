@@ -18,7 +18,7 @@ use Rattle.board.specs.Paper.Limits.{Limited}
 use Rattle.board.specs.Paper.Entries.{drawn}
 use Rattle.board.specs.Paper.Facts.{is-arc}
 use Rattle.board.specs.Paper.Schedules.{Placing, Placed, Keeps}
-use Rattle.board.specs.Tests.Live.{valid}
+use Rattle.board.specs.Paper.Tests.{valid}
 use Rattle.tries.specs.Paper.Lists.{among}
 use Rattle.tries.specs.Paper.Tries.{none, startAfter, inTime, ready, unplaced, search, tries}
 use Rattle.tries.specs.ListLaws.{Distinct, among-first, among-rest}

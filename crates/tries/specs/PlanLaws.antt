@@ -17,9 +17,9 @@ use Rattle.words.specs.BitLaws.{bit-zero, bit-with}
 use Rattle.minutes.specs.Bools.{and-parts, and-both, same-tests}
 use Rattle.board.specs.Paper.View.{View, view}
 use Rattle.board.specs.Paper.Limits.{jobLimit}
-use Rattle.board.specs.Tests.Live.{valid, valid-yes}
+use Rattle.board.specs.Paper.Tests.{valid, between}
+use Rattle.board.specs.Tests.Live.{valid-yes}
 use Rattle.board.specs.Tests.LimitsDecided.{past, decides-between}
-use Rattle.board.specs.Tests.Limits.{between}
 use Rattle.board.specs.declared.Board.{Board}
 use Rattle.board.specs.declared.Refusal.the-variants as Refused
 use Rattle.closure.specs.Check.{passes}
@@ -30,13 +30,12 @@ use Rattle.tries.specs.declared.PlanAnswer.{PlanAnswer}
 use Rattle.tries.specs.declared.PlanAnswer.the-variants as Answers
 use Rattle.tries.specs.Paper.Lists.{range, among}
 use Rattle.tries.specs.Paper.Tries as Tries
-use Rattle.tries.specs.Paper.Tries.{Outcome, found, add, startAfter, tries}
+use Rattle.tries.specs.Paper.Tries.{Outcome, found, add, startAfter, startIn, planOf, tries}
 use Rattle.tries.specs.Paper.Planner.{validJobs, placedWord, startList, unplanned, withPlan, answer, plan}
 use Rattle.tries.specs.Paper.Answers.{placingOf}
 use Rattle.tries.specs.Paper.Exact.{IsBudget}
 use Rattle.tries.specs.ListLaws.{Distinct, among-first, among-later, keep-among, below-among, keep-distinct, range-distinct}
-use Rattle.tries.specs.Reached.{startIn, start-first, start-rest}
-use Rattle.tries.specs.Sound.{placing}
+use Rattle.tries.specs.Reached.{start-first, start-rest}
 
 -- ---- the jobs tried
 
@@ -82,7 +81,7 @@ module _ (v : View) where
           getD-set-other (startList v ps) j k (startAfter v ps j) (pos 0) (λ d. ne (sym d)) ∙ ih ∙ sym (start-rest v j ps k ne)
 
   pub plan-placing : (a : PlanAnswer) (ps : List ℕ) → ((k : ℕ) → among ps k ≡ true → k < jobLimit)
-      → placing v ps ≡ placingOf (withPlan v a ps)
+      → planOf v ps ≡ placingOf (withPlan v a ps)
   plan-placing a ps small i = record { placed = λ k. sym (placed-bit ps k) i; start = λ k. sym (start-read ps small k) i }
 
 -- ---- the answer

@@ -2,43 +2,37 @@
 -- with all jobs placed.
 use mathlib.Core.Path.{_≡_, refl, sym, _∙_}
 use mathlib.Core.Logic.{_≢_}
-use mathlib.Core.Bool.{true, false, cond, _&&_}
+use mathlib.Core.Bool.{true, false, _&&_}
 use mathlib.Core.List.{List, [], _∷_}
 use Prim.Native.Nat.{ℕ, zero, suc}
 use native.Mathlib.Decide.{ℕ-discrete}
 use native.Mathlib.Omega.{arith}
-use lib.Dec.{eqb}
-use lib.IntN.{ℤ, pos}
+use lib.IntN.{ℤ}
 use lib.ListN.{length}
 use borrow.Author.Tests.{eq-eqb, ne-eqb}
 use Rattle.minutes.specs.Bools.{and-parts, by-test}
 use Rattle.board.specs.Paper.View.{View}
 use Rattle.tries.specs.Paper.Lists.{among}
-use Rattle.tries.specs.Paper.Tries.{none, startAfter, inTime, ready, unplaced, search}
+use Rattle.tries.specs.Paper.Tries.{none, startAfter, startIn, inTime, ready, unplaced, search}
 use Rattle.tries.specs.ListLaws.{Distinct, among-rest}
 use Rattle.tries.specs.Unplaced.{unplaced-is, one-placed}
 use Rattle.tries.specs.OutcomeLaws.{IfFound, from-if}
 
 module _ (v : View) where
-  -- the start of k where it was placed, and 0 where it was not
-  unfoldable pub startIn : List ℕ → ℕ → ℤ
-  startIn [] k = pos 0
-  startIn (j ∷ ps) k = cond (eqb j k) (startAfter v ps j) (startIn ps k)
-
-  pub start-first : (j : ℕ) (ps : List ℕ) → startIn (j ∷ ps) j ≡ startAfter v ps j
+  pub start-first : (j : ℕ) (ps : List ℕ) → startIn v (j ∷ ps) j ≡ startAfter v ps j
   unfolding startIn
   start-first j ps = rw (eq-eqb j j refl)
 
-  pub start-rest : (j : ℕ) (ps : List ℕ) (k : ℕ) → j ≢ k → startIn (j ∷ ps) k ≡ startIn ps k
+  pub start-rest : (j : ℕ) (ps : List ℕ) (k : ℕ) → j ≢ k → startIn v (j ∷ ps) k ≡ startIn v ps k
   unfolding startIn
   start-rest j ps k ne = rw (ne-eqb j k ne)
 
   -- what holds of the last job and of those before it holds of each
   pub last-and-before : (P : ℕ → ℤ → Type 0) (j : ℕ) (ps : List ℕ) → P j (startAfter v ps j)
-      → ((k : ℕ) → among ps k ≡ true → P k (startIn ps k)) → (k : ℕ) → among (j ∷ ps) k ≡ true → P k (startIn (j ∷ ps) k)
+      → ((k : ℕ) → among ps k ≡ true → P k (startIn v ps k)) → (k : ℕ) → among (j ∷ ps) k ≡ true → P k (startIn v (j ∷ ps) k)
   last-and-before P j ps last before k a = go (ℕ-discrete j k)
     where
-      go : Dec (j ≡ k) → P k (startIn (j ∷ ps) k)
+      go : Dec (j ≡ k) → P k (startIn v (j ∷ ps) k)
       go (yes d) = rw (← d) (rw (start-first j ps) last)
       go (no ne) = rw (start-rest j ps k ne) (before k (sym (among-rest j ps k ne) ∙ a))
 

@@ -18,18 +18,15 @@ use Rattle.board.specs.Paper.Rules.{E, D, L}
 use Rattle.board.specs.Paper.Limits.{Limited}
 use Rattle.board.specs.Paper.Entries.{Drawn, drawn, shown}
 use Rattle.board.specs.Paper.Facts.{Fact}
-use Rattle.board.specs.Paper.Schedules.{Placing, Respects, Keeps}
-use Rattle.board.specs.Tests.Live.{valid, valid-yes, valid-show}
+use Rattle.board.specs.Paper.Schedules.{Respects, Keeps}
+use Rattle.board.specs.Paper.Tests.{valid}
+use Rattle.board.specs.Tests.Live.{valid-yes, valid-show}
 use Rattle.tries.specs.Paper.Lists.{among}
-use Rattle.tries.specs.Paper.Tries.{found, startAfter, unplaced, tries}
+use Rattle.tries.specs.Paper.Tries.{found, startAfter, startIn, planOf, unplaced, tries}
 use Rattle.tries.specs.ListLaws.{Distinct, none-among, among-rest, among-later}
 use Rattle.tries.specs.Unplaced.{none-placed, ready-is, all-placed}
 use Rattle.tries.specs.OutcomeLaws.{IfFound}
-use Rattle.tries.specs.Reached.{Places, Reached, startIn, start-first, start-rest, last-and-before, search-reaches}
-
--- a list of placed jobs as a placing
-abbrev pub placing : View → List ℕ → Placing
-placing v ps = record { placed = among ps; start = startIn v ps }
+use Rattle.tries.specs.Reached.{Places, Reached, start-first, start-rest, last-and-before, search-reaches}
 
 -- a job starts no earlier than E
 not-early : (v : View) (ps : List ℕ) (j : ℕ) → E v j ≤ℤ startAfter v ps j
@@ -116,7 +113,7 @@ module _ (v : View) (order : List ℕ) (all : (k : ℕ) → among order k ≡ va
           let (b, h) = ih n in
           (among-later j ps i b, rw (start-rest v j ps i (older j ps t r i b), start-rest v j ps k n) h)
 
-  reached-keeps : (ps : List ℕ) → Reached v order ps → length (unplaced v order ps) ≡ 0 → Keeps v (placing v ps)
+  reached-keeps : (ps : List ℕ) → Reached v order ps → length (unplaced v order ps) ≡ 0 → Keeps v (planOf v ps)
   reached-keeps ps r e =
       record {
         added = λ j a. placed-valid ps r j a .0;
@@ -128,12 +125,12 @@ module _ (v : View) (order : List ℕ) (all : (k : ℕ) → among order k ≡ va
         apart = apart ps r;
       }
     where
-      facts : (f : Fact) → Drawn v f → Respects (shown v) (placing v ps) f
+      facts : (f : Fact) → Drawn v f → Respects (shown v) (planOf v ps) f
       facts _ (drawn i k a) = λ pi pk. along ps r i k a (all i ∙ valid-show v i (placed-valid ps r i pi)) pk .1
 
   -- the plan found is a schedule, of all valid jobs and no others
   pub tries-sound : Distinct order → (T : ℕ) (ps : List ℕ) → tries v order ≡ found T ps
-      → Keeps v (placing v ps) × ((k : ℕ) → among ps k ≡ valid v k)
+      → Keeps v (planOf v ps) × ((k : ℕ) → among ps k ≡ valid v k)
   tries-sound d T ps e =
       let (r, z) = subst (IfFound _) e (search-reaches v order d (length order) [] tt (ap length (none-placed v order))) in (
         reached-keeps ps r z,

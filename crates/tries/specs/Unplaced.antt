@@ -8,7 +8,7 @@ use borrow.Author.Tests.{not-false}
 use Rattle.minutes.specs.Bools.{is-false, refuted}
 use Rattle.board.specs.Paper.View.{View, Arc}
 use Rattle.board.specs.Tests.Decides.{Decides, holds, restated, retested, implied, negated, _and_}
-use Rattle.board.specs.Tests.Limits.{implies}
+use Rattle.board.specs.Paper.Tests.{implies}
 use Rattle.tries.specs.Paper.Lists.{among}
 use Rattle.tries.specs.Paper.Tries.{ready, unplaced}
 use Rattle.tries.specs.ListLaws.{Distinct, none-among, among-first, among-rest, keep-among, every-is, all-kept, one-less, none-passes}

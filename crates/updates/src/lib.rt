@@ -13,7 +13,7 @@ ghost use Rattle.board.specs.Paper.View.{view, rowOf};
 ghost use Rattle.board.specs.Paper.Facts.{is-arc, is-bound, is-valid};
 ghost use Rattle.board.specs.Paper.Values.{sideOf, turned, factOf};
 ghost use Rattle.updates.specs.Outcome.{outcomeOf};
-ghost use Rattle.board.specs.Tests.Live.{live};
+ghost use Rattle.board.specs.Paper.Tests.{live};
 ghost use Rattle.board.specs.Update.Updates as updates;
 ghost use Rattle.windows.specs.Windows.{windowOf, moved};
 ghost use Rattle.updates.specs.Applicable.{Applicable};

@@ -1,5 +1,5 @@
-//! Books the morning of README.md and prints the board after it. Without an argument on a [`Board`], whose calls include
-//! check 0; with the argument `checked` on a [`Dock`], whose calls don't.
+//! Books the morning of README.md and prints the board after it. With the argument `dock` on a [`Dock`], whose calls don't
+//! include check 0; else on a [`Board`], whose calls do.
 use bayboard::{members, Board, Calls, Dock, Mark, Plan, Refusal};
 
 /// Minutes after midnight: 360 is 6:00.
@@ -52,14 +52,13 @@ fn print(dock: &impl Calls, board: &Board) -> Result<(), Refusal> {
 }
 
 fn main() -> Result<(), Refusal> {
-    if std::env::args().nth(1).as_deref() == Some("checked") {
+    if std::env::args().nth(1).as_deref() == Some("dock") {
         let mut dock = Dock::new();
         book(&mut dock)?;
         print(&dock, dock.board())
     } else {
         let mut board = Board::empty();
         book(&mut board)?;
-        assert!(board.passes());
         print(&board, &board)
     }
 }

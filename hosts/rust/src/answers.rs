@@ -109,7 +109,7 @@ pub fn members(set: u64) -> impl Iterator<Item = usize> {
     (0..JOBS).filter(move |job| set >> job & 1 == 1)
 }
 
-// The library's contracts rule out every other number.
+// No call replies another number: crates/exports/specs/Table.antt.
 fn refusal(number: u64) -> Refusal {
     match number {
         0 => Refusal::Board,
@@ -126,6 +126,7 @@ fn refusal(number: u64) -> Refusal {
     }
 }
 
+// No row shows another mark: `RowShows.mark` in crates/promises/specs/Paper/Views.antt.
 fn mark(number: u8) -> Mark {
     match number {
         0 => Mark::Undecided,
@@ -135,6 +136,7 @@ fn mark(number: u8) -> Mark {
     }
 }
 
+// No pair has another number: `Arcs` in crates/promises/specs/Paper/Views.antt.
 fn arcs(number: u8) -> Arcs {
     match number {
         0 => Arcs::None,

@@ -1,4 +1,4 @@
-//! A board that passes check 0, kept so that it goes on passing: the calls on it don't test it again.
+//! A board that passes check 0, kept so that it goes on passing: the calls on it are the library's unchecked ones.
 use crate::answers::{self, number};
 use crate::{ffi, Board, Calls, Mark, Pair, Plan, Refusal, Row};
 
@@ -49,37 +49,37 @@ impl Calls for Dock {
         mark: Mark,
     ) -> Result<usize, Refusal> {
         answers::added(unsafe {
-            ffi::bayboard_checked_addition(&mut self.board, length, earliest, latest, mark as i32)
+            ffi::bayboard_unchecked_addition(&mut self.board, length, earliest, latest, mark as i32)
         })
     }
 
     fn arc(&mut self, from: usize, to: usize) -> Result<(), Refusal> {
         answers::accepted(unsafe {
-            ffi::bayboard_checked_arc(&mut self.board, number(from), number(to))
+            ffi::bayboard_unchecked_arc(&mut self.board, number(from), number(to))
         })
     }
 
     fn mark(&mut self, job: usize, mark: Mark) -> Result<(), Refusal> {
         answers::accepted(unsafe {
-            ffi::bayboard_checked_mark(&mut self.board, number(job), mark as i32)
+            ffi::bayboard_unchecked_mark(&mut self.board, number(job), mark as i32)
         })
     }
 
     fn cut(&mut self, job: usize, earliest: i32, latest: i32) -> Result<(), Refusal> {
         answers::accepted(unsafe {
-            ffi::bayboard_checked_cut(&mut self.board, number(job), earliest, latest)
+            ffi::bayboard_unchecked_cut(&mut self.board, number(job), earliest, latest)
         })
     }
 
     fn row(&self, job: usize) -> Result<Row, Refusal> {
-        answers::row(unsafe { ffi::bayboard_checked_row(&self.board, number(job)) })
+        answers::row(unsafe { ffi::bayboard_unchecked_row(&self.board, number(job)) })
     }
 
     fn pair(&self, a: usize, b: usize) -> Result<Pair, Refusal> {
-        answers::pair(unsafe { ffi::bayboard_checked_pair(&self.board, number(a), number(b)) })
+        answers::pair(unsafe { ffi::bayboard_unchecked_pair(&self.board, number(a), number(b)) })
     }
 
     fn plan(&self, budget: u32) -> Result<Plan, Refusal> {
-        answers::plan(unsafe { ffi::bayboard_checked_plan(&self.board, number(budget)) })
+        answers::plan(unsafe { ffi::bayboard_unchecked_plan(&self.board, number(budget)) })
     }
 }

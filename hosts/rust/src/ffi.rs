@@ -1,5 +1,5 @@
 //! The library's structs and functions as C has them. Nothing holds these declarations to the library but the layout below and
-//! the examples, which call each function.
+//! the tests, which call each function.
 use crate::{Board, JOBS};
 use std::mem::{offset_of, size_of};
 
@@ -54,25 +54,25 @@ unsafe extern "C" {
     pub safe fn bayboard_pair(board: &Board, a: i32, b: i32) -> PairReply;
     pub safe fn bayboard_plan(board: &Board, budget: i32) -> PlanReply;
 
-    // For a board that passes check 0.
-    pub unsafe fn bayboard_checked_addition(
+    // Without check 0, which the board has to pass: on another they may read and write past it.
+    pub unsafe fn bayboard_unchecked_addition(
         board: &mut Board,
         length: i32,
         earliest: i32,
         latest: i32,
         mark: i32,
     ) -> Reply;
-    pub unsafe fn bayboard_checked_arc(board: &mut Board, from: i32, to: i32) -> Reply;
-    pub unsafe fn bayboard_checked_mark(board: &mut Board, job: i32, mark: i32) -> Reply;
-    pub unsafe fn bayboard_checked_cut(
+    pub unsafe fn bayboard_unchecked_arc(board: &mut Board, from: i32, to: i32) -> Reply;
+    pub unsafe fn bayboard_unchecked_mark(board: &mut Board, job: i32, mark: i32) -> Reply;
+    pub unsafe fn bayboard_unchecked_cut(
         board: &mut Board,
         job: i32,
         earliest: i32,
         latest: i32,
     ) -> Reply;
-    pub unsafe fn bayboard_checked_row(board: &Board, job: i32) -> RowReply;
-    pub unsafe fn bayboard_checked_pair(board: &Board, a: i32, b: i32) -> PairReply;
-    pub unsafe fn bayboard_checked_plan(board: &Board, budget: i32) -> PlanReply;
+    pub unsafe fn bayboard_unchecked_row(board: &Board, job: i32) -> RowReply;
+    pub unsafe fn bayboard_unchecked_pair(board: &Board, a: i32, b: i32) -> PairReply;
+    pub unsafe fn bayboard_unchecked_plan(board: &Board, budget: i32) -> PlanReply;
 }
 
 // The layout that the library has, as in hosts/c/bayboard.h.

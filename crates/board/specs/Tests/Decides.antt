@@ -12,8 +12,9 @@ use borrow.Author.Tests.{leb-true, le-leb, ltb-true, lt-ltb, eqb-true, eq-eqb, n
 use Rattle.minutes.specs.Bools.{clash, is-false, refuted, and-parts, and-both, same-tests}
 use Rattle.minutes.specs.Linear.{whole}
 use Rattle.board.specs.Paper.View.{View, Live, Valid}
-use Rattle.board.specs.Tests.Live.{live, valid, live-yes, live-show, valid-yes, valid-show}
-use Rattle.board.specs.Tests.Limits.{all, implies}
+use Rattle.board.specs.Paper.Tests.{live, valid, implies}
+use Rattle.board.specs.Tests.Live.{live-yes, live-show, valid-yes, valid-show}
+use Rattle.board.specs.Tests.Limits.{all}
 
 pub record Decides (t : Bool) (P : Type 0) : Type 0 where
   pub yes : t ≡ true → P

@@ -6,27 +6,31 @@ use native.Mathlib.Omega.{arith}
 use borrow.Author.Tests.{le-leb}
 use Rattle.minutes.specs.Linear.{eqZ}
 use Rattle.board.specs.declared.Board.{Board}
-use Rattle.board.specs.Paper.View.{View, view}
+use Rattle.board.specs.Paper.View.{View, Live, view}
 use Rattle.board.specs.Paper.Facts.{Fact, Holds}
 use Rattle.board.specs.Paper.Limits.{tallyLimit, Within, emptyBoard}
 use Rattle.board.specs.Paper.Entries.{Drawn, drawn, _⊑_}
 use Rattle.board.specs.Order.Unique.{same-boards, equal-boards}
 use Rattle.board.specs.Inference.Infers.{r1, r2, r3, r45, r6, Obeys}
 use Rattle.board.specs.Update.Extension.{above-self}
-use Rattle.board.specs.Tests.Limits.{all, implies, isZero, isZeroRow, full, shape, holdsNothing, withinLimits}
+use Rattle.board.specs.Paper.Tests.{implies}
+use Rattle.board.specs.Tests.Limits.{all, isZero, isZeroRow, full, shape, holdsNothing, withinLimits}
 use Rattle.board.specs.Tests.LimitsDecided.{limits-yes}
 
 pub within-empty : (t : ℕ) → t ≤ tallyLimit → Within (emptyBoard t)
 unfolding all implies eqZ isZero isZeroRow full shape holdsNothing withinLimits
 within-empty t h = limits-yes (emptyBoard t) (rw (le-leb t tallyLimit h))
 
--- a view without jobs infers nothing
+-- a view without live jobs infers nothing
+pub idle-obeys : (v : View) → ((j : ℕ) → Live v j → ⊥) → Obeys v
+idle-obeys v idle _ (r1 a b c la vb lc ne ab bc) = absurd (idle a la)
+idle-obeys v idle _ (r2 a b va lb ab ba) = absurd (idle b lb)
+idle-obeys v idle _ (r3 a b la lb ne h) = absurd (idle a la)
+idle-obeys v idle _ (r45 s j S m lj p) = absurd (idle j lj)
+idle-obeys v idle _ (r6 j lj h) = absurd (idle j lj)
+
 pub empty-obeys : (v : View) → v .jobs ≡ 0 → Obeys v
-empty-obeys v empty _ (r1 a b c la vb lc ne ab bc) = absurd (omega (arith, empty, la .0))
-empty-obeys v empty _ (r2 a b va lb ab ba) = absurd (omega (arith, empty, lb .0))
-empty-obeys v empty _ (r3 a b la lb ne h) = absurd (omega (arith, empty, la .0))
-empty-obeys v empty _ (r45 s j S m lj p) = absurd (omega (arith, empty, lj .0))
-empty-obeys v empty _ (r6 j lj h) = absurd (omega (arith, empty, lj .0))
+empty-obeys v empty = idle-obeys v λ j l. omega (arith, empty, l .0)
 
 -- a board without jobs shows nothing, so that it is below every view
 pub empty-below : (b : Board) → Within b → b .jobs ≡ 0 → (w : View) → view b ⊑ w

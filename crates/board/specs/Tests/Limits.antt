@@ -1,37 +1,21 @@
 -- The test of "a board that breaks a limit above, keeps something twice that doesn't agree": the limits of a board as the
 -- gate tests them. Pairs are tested among the jobs alone, so that a small board is tested quickly.
-use mathlib.Core.Bool.{Bool, true, false, not, _&&_, Bool·beq}
+use mathlib.Core.Bool.{Bool, true, not, _&&_, Bool·beq}
 use mathlib.Core.List.{List}
 use Prim.Native.Nat.{ℕ, zero, suc, _^_}
 use lib.Dec.{eqb, leb, ltb}
 use lib.IntN.{ℤ, pos}
 use lib.ListN.{length, getD}
-use lib.Signed.{leZ}
 use Rattle.minutes.specs.Linear.{eqZ}
 use Rattle.board.specs.declared.Board.{Board}
 use Rattle.board.specs.Paper.View.{Row, view, rowOf, arcOf, arcIntoOf}
-use Rattle.board.specs.Paper.Limits.{jobLimit, tallyLimit, firstMinute, lastMinute, shortest, longest}
-use Rattle.board.specs.Tests.Live.{live}
+use Rattle.board.specs.Paper.Limits.{jobLimit, tallyLimit}
+use Rattle.board.specs.Paper.Tests.{live, implies, isTime, isLength}
 
 -- does the test hold of every number below n?
 unfoldable pub all : ℕ → (ℕ → Bool) → Bool
 all zero t = true
 all (suc n) t = all n t && t n
-
--- does the second test hold where the first does?
-unfoldable pub implies : Bool → Bool → Bool
-implies true t = t
-implies false t = true
-
-unfoldable pub between : ℤ → ℤ → ℤ → Bool
-between low high z = leZ low z && leZ z high
-
--- the limits of times and lengths, and the number 0
-abbrev pub isTime : ℤ → Bool
-isTime z = between firstMinute lastMinute z
-
-abbrev pub isLength : ℤ → Bool
-isLength z = between shortest longest z
 
 unfoldable pub isZero : ℤ → Bool
 isZero z = eqZ z (pos 0)

@@ -17,8 +17,8 @@ use Rattle.minutes.specs.Linear.{whole}
 use Rattle.board.specs.declared.Board.{Board}
 use Rattle.board.specs.Paper.View.{Row, view, rowOf, arcOf, arcIntoOf, Live, Arc}
 use Rattle.board.specs.Paper.Limits.{jobLimit, tallyLimit, IsTime, IsLength, Fits, zeroRow, RowLimits, Shape, Within}
-use Rattle.board.specs.Tests.Live.{live}
-use Rattle.board.specs.Tests.Limits.{between, isTime, isLength, isZero, fits, isZeroRow, full, shape, holdsJob, holdsNothing, joinable, agrees, withinLimits}
+use Rattle.board.specs.Paper.Tests.{live, between, isTime, isLength}
+use Rattle.board.specs.Tests.Limits.{isZero, fits, isZeroRow, full, shape, holdsJob, holdsNothing, joinable, agrees, withinLimits}
 use Rattle.board.specs.Tests.Decides.{Decides, restated, _and_, implied, negated, every, holds, le, lt, eq, same, live-is, at-most}
 
 -- ---- rows

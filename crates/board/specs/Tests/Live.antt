@@ -1,6 +1,6 @@
--- The tests of live, of valid and of R6, as the code makes them, and what they decide.
+-- What the tests of live and of valid decide; and the test of R6.
 use mathlib.Core.Path.{_≡_}
-use mathlib.Core.Bool.{Bool, true, not, _&&_}
+use mathlib.Core.Bool.{Bool, true, not}
 use Prim.Native.Nat.{ℕ}
 use lib.IntN.{_+ℤ_}
 use lib.Signed.{leZ}
@@ -8,12 +8,7 @@ use lib.Dec.{eqb, ltb}
 use borrow.Author.Tests.{ltb-true, lt-ltb, eqb-true, eq-eqb, eqb-false, ne-eqb, not-true}
 use Rattle.minutes.specs.Bools.{and-parts}
 use Rattle.board.specs.Paper.View.{Row, View, Live, Valid}
-
-unfoldable pub live : View → ℕ → Bool
-live v j = ltb j (v .jobs) && not (eqb (v .row j .mark) 2)
-
-unfoldable pub valid : View → ℕ → Bool
-valid v j = ltb j (v .jobs) && eqb (v .row j .mark) 1
+use Rattle.board.specs.Paper.Tests.{live, valid}
 
 -- R6: does the job fit its window?
 abbrev pub roomy : Row → Bool

@@ -19,7 +19,8 @@ use Rattle.board.specs.Inference.Infers.{Obeys, r6}
 use Rattle.board.specs.Paper.Limits.{Fits, Within}
 use Rattle.board.specs.Paper.Entries.{Shown, _⊑_}
 use Rattle.board.specs.Inference.Forced.{invalid-unless}
-use Rattle.board.specs.Tests.Live.{live, live-yes, live-show, roomy}
+use Rattle.board.specs.Paper.Tests.{live}
+use Rattle.board.specs.Tests.Live.{live-yes, live-show, roomy}
 use Rattle.board.specs.Update.Updates.{store, link, invalidate, raised, marked, exclude, tighten, update}
 use Rattle.board.specs.Update.Extension.{above-self, Extended, Updated}
 use Rattle.board.specs.Update.Compose.{extends-same}

@@ -12,7 +12,8 @@ use Rattle.words.specs.Bit.{with, without}
 use Rattle.board.specs.declared.Board.{Board}
 use Rattle.board.specs.Paper.View.{Row, Side, early, late, bound, rowOf, view}
 use Rattle.board.specs.Paper.Facts.{Fact, is-arc, is-bound, is-valid, is-invalid}
-use Rattle.board.specs.Tests.Live.{live, roomy}
+use Rattle.board.specs.Paper.Tests.{live}
+use Rattle.board.specs.Tests.Live.{roomy}
 use Rattle.board.specs.Paper.Limits.{jobLimit, zeroRow}
 
 -- row j stored anew

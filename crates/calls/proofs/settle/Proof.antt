@@ -38,22 +38,14 @@ closure-requires c κs =
     let first = c .before .before in
     first .before .before .pre .1 (showable first)
 
-impossible-requires-2 : tie.Need-impossible-requires-2
-impossible-requires-2 c κs = search needs
+conclude-requires : tie.Need-conclude-requires
+conclude-requires c κs = search needs
 
 returns-3 : tie.Need-returns-3
 unfolding _andThen_
 returns-3 c =
-    let asked = c .before .before .before in
-    let no = not-true (asked .closure .result .possible) (c .before .if3 .taken) in
-    rw (showable (asked .before .before .before), ← asked .closure .ensures, no) (c .impossible2 .ensures)
-
-returns-4 : tie.Need-returns-4
-unfolding _andThen_
-returns-4 c =
-    let asked = c .before .before .before in
-    let closed = not-false (asked .closure .result .possible) (c .before .if3 .left) in
-    rw (showable (asked .before .before .before), ← asked .closure .ensures, closed)
+    let asked = c .before in
+    rw (showable (asked .before .before .before), ← asked .closure .ensures) (c .conclude .ensures)
 
 pub settle-spec : {M : Type 1} → statement M
 settle-spec =
@@ -64,6 +56,5 @@ settle-spec =
     same-requires
     returns-2
     closure-requires
-    impossible-requires-2
-    returns-3
-    returns-4)
+    conclude-requires
+    returns-3)

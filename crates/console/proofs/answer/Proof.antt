@@ -1,19 +1,19 @@
--- `console::answer` meets its contract: what remains of the text gives the board that the whole gives. Assumes nothing.
+-- `console::answer` meets its contract: whenever it writes, the bytes in the buffer are the next piece of the text. Assumes nothing.
 use Prim.Native.Nat.{_≤_}
 use mathlib.Core.Bool.{false≢true}
 use mathlib.Core.Path.{_≡_, sym, _∙_}
 use native.Mathlib.Omega.{arith}
-use lib.ListN.{length}
+use lib.ListN.{length, take}
 use borrow.Author.Needs.{needs}
 use Rattle.numerals.specs.Rest.{rest-length}
-use Rattle.text.specs.Paper.Text.{answer}
-use Rattle.console.specs.Pieces.{Remains, first-piece, next-piece, all-answered}
+use Rattle.text.specs.Pieces.{pieces-pass}
+use Rattle.console.specs.Buffered.{Buffered, first-piece, next-piece, all-answered}
 use Rattle.console.proofs.answer.Statement.{statement}
 use Rattle.console.proofs.answer.Tie as tie
 
 abbrev Inv-loop : tie.InvT-loop
 Inv-loop bytes out₀ board₀ written₀ read rest₀ out board written rest =
-    (length out ≡ 65536) × (written ≤ length out) × Remains (answer bytes) board rest
+    (length out ≡ 65536) × (written ≤ length out) × Buffered bytes (take written out) board rest
 
 abbrev μ-loop : tie.MeasureT-loop
 μ-loop bytes out₀ board₀ written₀ read rest₀ out board written rest = length rest
@@ -37,7 +37,7 @@ part-rest-end : tie.Need-part-rest-end Inv-loop μ-loop
 part-rest-end c = search needs
 
 loop-holds : tie.Need-loop-holds Inv-loop μ-loop
-loop-holds c = (c .before .before .before .start .kept .1 .0 ∙ sym (c .before .before .before .before .before .large-buffer .ensures), c .before .before .before .start .ensures .written, first-piece _ _ _ _ (c .before .before .before .start .ensures))
+loop-holds c = (c .before .before .before .start .kept .1 .0 ∙ sym (c .before .before .before .before .before .large-buffer .ensures), c .before .before .before .start .ensures .written, first-piece (c .before .before .before .start .ensures))
 
 sub-write-all : tie.Need-sub-write-all Inv-loop μ-loop
 sub-write-all c = search needs
@@ -52,13 +52,13 @@ write-all-requires : tie.Need-write-all-requires Inv-loop μ-loop
 write-all-requires c κs = search needs
 
 returns : tie.Need-returns Inv-loop μ-loop
-returns c = λ e. all-answered _ _ _ (c .before .before .before .before .before .loop .inv .2) (c .if2 .taken)
+returns c = λ e. all-answered (c .before .before .before .before .before .loop .inv .2) (c .if2 .taken)
 
 slice-aggregate-next : tie.Need-slice-aggregate-next Inv-loop μ-loop
 slice-aggregate-next c = search needs
 
 next-requires : tie.Need-next-requires Inv-loop μ-loop
-next-requires c κs = (c .before .before .before .before .before .before .loop .inv .2 .passes, omega (arith, c .before .before .before .before .before .before .loop .inv .0))
+next-requires c κs = (pieces-pass (c .before .before .before .before .before .before .loop .inv .2 .given), omega (arith, c .before .before .before .before .before .before .loop .inv .0))
 
 sub-rest-2 : tie.Need-sub-rest-2 Inv-loop μ-loop
 sub-rest-2 c = search needs
@@ -76,7 +76,7 @@ loop-less c =
     omega (arith, rest-length left (piece .result .read), piece .ensures .read, piece .ensures .progress (omega (arith, c .before .before .before .before .before .if2 .left)))
 
 loop-again : tie.Need-loop-again Inv-loop μ-loop
-loop-again c = (c .before .before .before .next .kept .1 .1 .0 ∙ c .before .before .before .before .before .before .before .before .before .before .loop .inv .0, c .before .before .before .next .ensures .written, next-piece _ _ _ _ _ (c .before .before .before .before .before .before .before .before .before .before .loop .inv .2) (c .before .before .before .next .ensures))
+loop-again c = (c .before .before .before .next .kept .1 .1 .0 ∙ c .before .before .before .before .before .before .before .before .before .before .loop .inv .0, c .before .before .before .next .ensures .written, next-piece (c .before .before .before .before .before .before .before .before .before .before .loop .inv .2) (c .before .before .before .next .ensures))
 
 returns-2 : tie.Need-returns-2 Inv-loop μ-loop
 returns-2 c = λ e. absurd (false≢true e)

@@ -1,12 +1,12 @@
 -- What a call must answer, and the board that it must hand back, over entries that the board shows: the table in its order,
--- "8 exactly when" the closure is a contradiction, and else the least closed board.
+-- 8 exactly when the closure is a contradiction, and else the least closed board.
 use mathlib.Core.Path.{_≡_}
 use mathlib.Core.Option.{none, some}
 use Rattle.board.specs.declared.Board.{Board}
 use Rattle.board.specs.declared.Refusal.{Refusal}
 use Rattle.board.specs.declared.Refusal.the-variants as Refused
 use Rattle.board.specs.Paper.Entries.{Entries}
-use Rattle.board.specs.Paper.Closed.{Least, Contradiction}
+use Rattle.board.specs.Paper.Closed.{LeastClosed, Contradiction}
 use Rattle.entries.specs.declared.Entered.{Entered}
 use Rattle.entries.specs.Paper.Entry.{Entry, withEntry}
 use Rattle.entries.specs.Paper.Gate.{checks, gate}
@@ -25,4 +25,4 @@ pub data Ends (b : Board) (e : Entry) (Contradicts : Type 0) (Becomes : Board �
 
 -- 8 exactly when no closed board exists, and otherwise the least closed board over the entries and this one
 abbrev pub Outcome : Entries → Board → Entry → Entered → Type 0
-Outcome es b e = Ends b e (Contradiction (withEntry es e)) (Least (withEntry es e))
+Outcome es b e = Ends b e (Contradiction (withEntry es e)) (LeastClosed (withEntry es e))

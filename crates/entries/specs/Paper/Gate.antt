@@ -10,7 +10,7 @@ use Rattle.minutes.specs.Linear.{eqZ}
 use Rattle.board.specs.declared.Refusal.{Refusal}
 use Rattle.board.specs.declared.Refusal.the-variants as Refused
 use Rattle.board.specs.Paper.Limits.{jobLimit}
-use Rattle.board.specs.Tests.Limits.{between, isLength, isTime}
+use Rattle.board.specs.Paper.Tests.{between, isLength, isTime}
 use Rattle.entries.specs.Paper.Entry.{Statement, arc, mark, cut, Entry, addition, other}
 
 -- "numbered from 0": is z the number of a job on a board of n jobs?

@@ -8,7 +8,7 @@ use lib.ListN.{getD}
 use Rattle.board.specs.declared.Board.{Board}
 use Rattle.board.specs.declared.Refusal.the-variants as Refused
 use Rattle.board.specs.Paper.View.{rowOf, arcOf, view}
-use Rattle.board.specs.Tests.Live.{live}
+use Rattle.board.specs.Paper.Tests.{live}
 use Rattle.closure.specs.Check.{passes}
 use Rattle.entries.specs.declared.RowAnswer.{RowAnswer}
 use Rattle.entries.specs.declared.RowAnswer.the-variants as Rows

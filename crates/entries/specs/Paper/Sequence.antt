@@ -1,5 +1,8 @@
 -- A sequence of entry calls in either manner: the boards, the answers, and what was accepted.
+use mathlib.Core.Bool.{cond}
 use mathlib.Core.List.{List, [], _∷_, _++_}
+use Prim.Native.Nat.{ℕ, _+_}
+use lib.Dec.{eqb}
 use Rattle.board.specs.declared.Board.{Board}
 use Rattle.entries.specs.declared.Entered.{Entered}
 use Rattle.entries.specs.Paper.Entry.{Entry}
@@ -11,6 +14,8 @@ use Rattle.entries.specs.Paper.Answers.{Reply, ok-number, ok, no-number,
 pub data Manner : Type 0 where
   byValue inPlace : Manner
 
+-- The manner comes in where a call is met by code: `outcome` doesn't read it, and the calls by value (crate `dock`) and those in place
+-- (crate `host`) are each proved to give that outcome.
 pub record Call : Type 0 where
   pub manner : Manner
   pub entry : Entry
@@ -34,3 +39,19 @@ kept (no-number r) e = []
 unfoldable pub accepted : Board → List Call → List Entry
 accepted b [] = []
 accepted b (c ∷ cs) = kept (replyOf (outcome b c .answer)) (c .entry) ++ accepted (outcome b c .board) cs
+
+-- "a tally of calls answered 8": how many of the calls are
+abbrev pub oneImpossible : Reply → ℕ
+oneImpossible (ok-number k) = 0
+oneImpossible ok = 0
+oneImpossible (no-number r) = cond (eqb r 8) 1 0
+
+unfoldable pub impossibles : Board → List Call → ℕ
+impossibles b [] = 0
+impossibles b (c ∷ cs) = oneImpossible (replyOf (outcome b c .answer)) + impossibles (outcome b c .board) cs
+
+-- A claim P holds of each call in turn: of the board that it gets, of what was accepted before it, and of the call.
+unfoldable pub Each : (Board → List Entry → Call → Type 0) → Board → List Entry → List Call → Type 0
+Each P b before [] = Unit
+Each P b before (c ∷ cs) =
+    P b before c × Each P (outcome b c .board) (before ++ kept (replyOf (outcome b c .answer)) (c .entry)) cs

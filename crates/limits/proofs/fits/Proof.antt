@@ -4,7 +4,7 @@ use mathlib.Core.Bool.{_&&_}
 use mathlib.Core.Logic.{⊎-elim}
 use mir.ValLaws.{toZ-ofZ}
 use borrow.Author.Needs.{needs}
-use Rattle.board.specs.Tests.Limits.{isLength, isTime}
+use Rattle.board.specs.Paper.Tests.{isLength, isTime}
 use Rattle.limits.proofs.fits.Statement.{statement}
 use Rattle.limits.proofs.fits.Tie as tie
 

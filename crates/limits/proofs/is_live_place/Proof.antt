@@ -3,7 +3,7 @@ use mathlib.Core.Path.{_≡_, sym, _∙_}
 use mathlib.Core.Bool.{_&&_}
 use mir.ValLaws.{toZ-ofZ}
 use borrow.Author.Needs.{needs}
-use Rattle.board.specs.Tests.Limits.{isLength, isTime}
+use Rattle.board.specs.Paper.Tests.{isLength, isTime}
 use Rattle.limits.proofs.is_live_place.Statement.{statement}
 use Rattle.limits.proofs.is_live_place.Tie as tie
 

@@ -8,7 +8,7 @@ use Rattle.board.specs.Paper.View.{view}
 use Rattle.board.specs.Tests.Live.{live-yes}
 use Rattle.rules.specs.JobSearched.{JobSettled}
 use Rattle.rules.specs.Values.{inferredOf}
-use Rattle.search.specs.PairsWalk.{unsaid}
+use Rattle.search.specs.PairsWalk.{searched-with}
 use Rattle.search.proofs.at_first.Statement.{statement}
 use Rattle.search.proofs.at_first.Tie as tie
 
@@ -34,7 +34,7 @@ returns-2 c b h =
     let k = low .result in
     let both = sym (ap (λ w. bit w k) (first .intersection .ensures) ∙ bit-intersection (a .set) (a .live) k) ∙ low .ensures .member in
     let live = live-yes (view b) k (sym (h .is-live k) ∙ and-parts (bit (a .set) k) (bit (a .live) k) both .1) in
-    unsaid (view b) (JobSettled (view b) k) (inferredOf (c .at-job .result)) (c .at-job .ensures b (h .arrays) live)
+    searched-with (view b) (JobSettled (view b) k) Unit (λ _. tt) (inferredOf (c .at-job .result)) (c .at-job .ensures b (h .arrays) live)
 
 pub at-first-spec : {M : Type 1} → statement M
 at-first-spec =

@@ -1,15 +1,14 @@
--- What the planner must answer over entries that the board shows: how its tries end says whether the entries have a schedule.
-use Prim.Native.Nat.{ℕ, _<_, _≤_}
+-- What the planner must answer: how its tries end, left to their end, and what a budget makes of that.
+use mathlib.Core.Bool.{cond}
+use Prim.Native.Nat.{ℕ}
+use lib.Dec.{leb}
 use lib.IntN.{ℤ, pos}
 use lib.Signed.{_≤ℤ_}
-use Rattle.board.specs.Paper.Entries.{Entries}
-use Rattle.board.specs.Paper.Schedules.{Placing, Schedule}
 use Rattle.board.specs.Paper.View.{View}
-use Rattle.entries.specs.Paper.Entry.{number}
 use Rattle.entries.specs.Paper.Gate.{budgetLimit}
-use Rattle.tries.specs.Paper.Answers.{PlanReply, plan-found, plan-none, plan-spent, no-plan}
+use Rattle.tries.specs.Paper.Answers.{PlanReply, plan-found, plan-none, plan-spent}
 use Rattle.tries.specs.Paper.Planner.{validJobs}
-use Rattle.tries.specs.Paper.Tries.{Outcome, found, none, tries}
+use Rattle.tries.specs.Paper.Tries.{Outcome, found, none, planOf, tries}
 
 -- "a budget, 0 to 1000000"
 abbrev pub IsBudget : ℤ → Type 0
@@ -24,11 +23,8 @@ taken (none t) = t
 abbrev pub triesTaken : View → ℕ
 triesTaken v = taken (tries v (validJobs v))
 
--- The ways in which the planner can answer, where T is the number of tries that it takes. They exclude each other: spent
--- exactly when T is above the budget; otherwise none exactly when the entries have no schedule; otherwise found, with a plan
--- that is one of their schedules.
-pub data PlanEnds (es : Entries) (T : ℕ) (budget : ℤ) : PlanReply → Type 0 where
-  refuses : (IsBudget budget → ⊥) → PlanEnds es T budget (no-plan 9)
-  spends : IsBudget budget → number budget < T → PlanEnds es T budget (plan-spent (number budget))
-  exhausts : IsBudget budget → T ≤ number budget → ((p : Placing) → Schedule es p → ⊥) → PlanEnds es T budget (plan-none T)
-  finds : IsBudget budget → T ≤ number budget → (p : Placing) → Schedule es p → PlanEnds es T budget (plan-found T p)
+-- "If this takes T tries and T is at most the budget, the answer is found or none with T; otherwise it is spent with the
+-- budget."
+abbrev pub ending : View → ℕ → Outcome → PlanReply
+ending v budget (found t ps) = cond (leb t budget) (plan-found t (planOf v ps)) (plan-spent budget)
+ending v budget (none t) = cond (leb t budget) (plan-none t) (plan-spent budget)

@@ -2,13 +2,15 @@
 use mathlib.Core.Bool.{Bool, not, cond, _&&_}
 use mathlib.Core.List.{List, [], _∷_}
 use Prim.Native.Nat.{ℕ, zero, suc, _+_}
-use lib.IntN.{ℤ, _+ℤ_}
+use lib.Dec.{eqb}
+use lib.IntN.{ℤ, pos, _+ℤ_}
 use lib.ListN.{length}
 use lib.Signed.{leZ}
 use Rattle.minutes.specs.Time.{greater}
 use Rattle.board.specs.Paper.View.{View}
 use Rattle.board.specs.Paper.Rules.{E, D, L}
-use Rattle.board.specs.Tests.Limits.{implies}
+use Rattle.board.specs.Paper.Schedules.{Placing}
+use Rattle.board.specs.Paper.Tests.{implies}
 use Rattle.tries.specs.Paper.Lists.{keep, every, among}
 
 -- How tries end, with their number: all jobs are placed, and the list of them has the last one first; or all have been tried
@@ -33,6 +35,15 @@ module _ (v : View) where
   unfoldable pub startAfter : List ℕ → ℕ → ℤ
   startAfter [] j = E v j
   startAfter (i ∷ ps) j = greater (E v j) (startAfter ps i +ℤ L v i)
+
+  -- the start of k where it was placed, and 0 where it was not
+  unfoldable pub startIn : List ℕ → ℕ → ℤ
+  startIn [] k = pos 0
+  startIn (j ∷ ps) k = cond (eqb j k) (startAfter ps j) (startIn ps k)
+
+  -- "its plan, as a schedule, holds the placed jobs with their starts and no others"
+  abbrev pub planOf : List ℕ → Placing
+  planOf ps = record { placed = among ps; start = startIn ps }
 
   -- "its end is at most D"
   abbrev pub inTime : List ℕ → ℕ → Bool

@@ -1,7 +1,7 @@
 -- `updates::is_live` meets its contract: the mark is asked where the number is that of a job. Assumes nothing.
 use borrow.Author.Needs.{needs}
 use borrow.Author.Tests.{lt-ltb, le-ltb}
-use Rattle.board.specs.Tests.Live.{live}
+use Rattle.board.specs.Paper.Tests.{live}
 use Rattle.updates.proofs.is_live.Statement.{statement}
 use Rattle.updates.proofs.is_live.Tie as tie
 

@@ -1,6 +1,6 @@
 -- `board::range::between` meets its contract: the second test is asked where the first holds. Assumes nothing.
 use mir.ValLaws.{toZ-ofZ}
-use Rattle.board.specs.Tests.Limits.{between}
+use Rattle.board.specs.Paper.Tests.{between}
 use Rattle.board.proofs.range.between.Statement.{statement}
 use Rattle.board.proofs.range.between.Tie as tie
 

@@ -1,0 +1,21 @@
+-- `unchecked::by_value::row` meets its contract: it gives the reply to what the call answers. Assumes nothing.
+use mathlib.Core.Path.{_∙_, ap}
+use borrow.Author.Needs.{needs}
+use mir.ValLaws.{toZ-ofZ}
+use Rattle.exports.specs.Replies.{rowReply}
+use Rattle.exports.proofs.unchecked.by_value.row.Statement.{statement}
+use Rattle.exports.proofs.unchecked.by_value.row.Tie as tie
+
+row-requires : tie.Need-row-requires
+row-requires c κs = search needs
+
+row-reply-requires : tie.Need-row-reply-requires
+row-reply-requires c κs = search needs
+
+returns : tie.Need-returns
+returns c =
+    let f = c .before .before .fits in
+    c .row-reply .ensures ∙ ap rowReply (simp (toZ-ofZ, f .job) at (c .before .row .ensures))
+
+pub row-spec : {M : Type 1} → statement M
+row-spec = tie.close (tie.spec row-requires row-reply-requires returns)

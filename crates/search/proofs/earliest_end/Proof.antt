@@ -1,0 +1,43 @@
+-- `search::earliest_end` meets its contract: the sum does not overflow. Assumes nothing.
+use borrow.Author.Needs.{needs}
+use mathlib.Core.Path.{_∙_, subst⁻¹}
+use mir.Syntax.{w32}
+use mir.ValLaws.{toZ-ofZ}
+use Rattle.minutes.specs.Time.{Moderate}
+use Rattle.board.specs.Paper.View.{early}
+use Rattle.board.specs.Tests.Ranges.{time-moderate}
+use Rattle.energy.specs.Laws.{time-fits, length-fits, length-moderate, end-moderate}
+use Rattle.search.proofs.earliest_end.Statement.{statement}
+use Rattle.search.proofs.earliest_end.Tie as tie
+
+mul-sum : tie.Need-mul-sum
+mul-sum c = search needs
+
+element-copy-out-sum : tie.Need-element-copy-out-sum
+element-copy-out-sum c = search needs
+
+mul-sum-2 : tie.Need-mul-sum-2
+mul-sum-2 c = search needs
+
+element-copy-out-sum-2 : tie.Need-element-copy-out-sum-2
+element-copy-out-sum-2 c = search needs
+
+sum-requires : tie.Need-sum-requires
+sum-requires c κs =
+    let start = c .before .before in
+    let (_, starts, work) = start .pre in
+    let i = start .args .i in
+    simp (toZ-ofZ, time-fits (starts .time i), length-fits work i) (time-moderate (starts .time i), length-moderate work i)
+
+returns : tie.Need-returns
+returns c =
+    let start = c .before .before .before in
+    let (_, starts, work) = start .pre in
+    let i = start .args .i in
+    let is = toZ-ofZ w32 _ (record { sfits = c .sum .ok }) ∙ simp (toZ-ofZ, time-fits (starts .time i), length-fits work i) at (c .sum .ensures) in
+    record { is = is; moderate = subst⁻¹ Moderate is (end-moderate early starts work i) }
+
+pub earliest-end-spec : {M : Type 1} → statement M
+earliest-end-spec =
+    tie.close
+    (tie.spec mul-sum element-copy-out-sum mul-sum-2 element-copy-out-sum-2 sum-requires returns)

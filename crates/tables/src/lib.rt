@@ -1,0 +1,1 @@
+// No code: the crate computes tables of examples from the definitions.
