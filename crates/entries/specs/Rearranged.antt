@@ -1,7 +1,7 @@
 -- Lists of entries that are the same jobs in the same order and the same set of other entries: an arc, mark or cut may change places
 -- with its neighbour, and one that was made before may be left out.
 use mathlib.Core.Path.{_≡_, refl, ap, subst⁻¹}
-use mathlib.Core.Logic.{⊎-elim}
+use mathlib.Core.Logic.{⊎-elim, _↔_}
 use mathlib.Core.List.{List, [], _∷_, _++_, List·Memᴰ, List·Memᴰ·head, List·Memᴰ·tail, List·Memᴰ·append-cases, List·Memᴰ·cases-cons, Memᴰ·append-left, Memᴰ·append-right}
 use Rattle.entries.specs.Paper.Entry.{Statement, Entry, addition, other, addedRow, additions, SameEntries}
 
@@ -25,9 +25,13 @@ additions-without s m = refl
 
 -- ---- the entries made
 
--- the entries of a list with another in front of its end are its own and those of its end
+-- lists with one beginning have the same entries where each end has its own among those of the other list
 made-end : (l m n : List Entry) (e : Entry) → (List·Memᴰ e m → List·Memᴰ e (l ++ n)) → List·Memᴰ e (l ++ m) → List·Memᴰ e (l ++ n)
 made-end l m n e h made = ⊎-elim (λ a. Memᴰ·append-left n a) h (List·Memᴰ·append-cases l made)
+
+made-ends : (l m n : List Entry) (e : Entry) → (List·Memᴰ e m → List·Memᴰ e (l ++ n)) → (List·Memᴰ e n → List·Memᴰ e (l ++ m))
+    → List·Memᴰ e (l ++ m) ↔ List·Memᴰ e (l ++ n)
+made-ends l m n e h k = (made-end l m n e h, made-end l n m e k)
 
 made-swapped : (x y : Entry) (m : List Entry) (e : Entry) → List·Memᴰ e (x ∷ y ∷ m) → List·Memᴰ e (y ∷ x ∷ m)
 made-swapped x y m e (List·Memᴰ·head q) = List·Memᴰ·tail (List·Memᴰ·head q)
@@ -40,19 +44,18 @@ pub same-swapped : (l m : List Entry) (x : Entry) (s : Statement) → SameEntrie
 same-swapped l m x s =
     record {
       jobs = additions-end l _ _ (additions-swapped x s m);
-      others = λ t. (
-        made-end l _ _ (other t) (λ d. Memᴰ·append-right l (made-swapped x (other s) m (other t) d)),
-        made-end l _ _ (other t) (λ d. Memᴰ·append-right l (made-swapped (other s) x m (other t) d)),
-      );
+      others = λ t.
+          made-ends l _ _ (other t)
+          (λ d. Memᴰ·append-right l (made-swapped x (other s) m (other t) d))
+          (λ d. Memᴰ·append-right l (made-swapped (other s) x m (other t) d));
     }
 
 pub same-repeated : (l m : List Entry) (s : Statement) → List·Memᴰ (other s) l → SameEntries (l ++ other s ∷ m) (l ++ m)
 same-repeated l m s made =
     record {
       jobs = additions-end l _ _ (additions-without s m);
-      others = λ t. (
-        made-end l _ _ (other t)
-            (λ d. ⊎-elim (λ q. Memᴰ·append-left m (subst⁻¹ (λ e. List·Memᴰ e l) q made)) (Memᴰ·append-right l) (List·Memᴰ·cases-cons d)),
-        made-end l _ _ (other t) (λ d. Memᴰ·append-right l (List·Memᴰ·tail d)),
-      );
+      others = λ t.
+          made-ends l _ _ (other t)
+          (λ d. ⊎-elim (λ q. Memᴰ·append-left m (subst⁻¹ (λ e. List·Memᴰ e l) q made)) (Memᴰ·append-right l) (List·Memᴰ·cases-cons d))
+          (λ d. Memᴰ·append-right l (List·Memᴰ·tail d));
     }

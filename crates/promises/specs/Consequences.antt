@@ -225,10 +225,6 @@ module _ (t : ℕ) (cs : List Call) (demand : Demand3 t cs) where
 -- ---- all three
 
 module _ (all : Demands) where
-  -- no call after any sequence is answered 0
-  pub never-refused-0 : (t : ℕ) → t ≤ tallyLimit → (cs : List Call) (q : Request) → refusal (finalBoard t cs) q ≡ some 0 → ⊥
-  never-refused-0 t fits cs = never-zero t cs (all .third t fits cs) (all .first)
-
   -- whatever entry any board in order accepts, and whatever entry is accepted after any sequence: the least board
   pub handed-least : (b : Board) → InOrder b → (e : Entry) → refusal b (entry e) ≡ none → Least (withEntry (shown (view b)) e) (enter b e .board)
   handed-least b o e q = accepted-least (shown (view b)) b (all .second b o) e q .0
@@ -242,6 +238,6 @@ module _ (all : Demands) where
       → ((p : Placing) → Schedule (shown (view b)) p → ⊥) → planReplyOf (plan b z) ≡ plan-none (triesTaken (view b))
   handed-none b o z fits = unscheduled-none (shown (view b)) b z (all .handed b o z fits)
 
--- the demands hold, so that all of this does
+-- the demands hold, so that all of this does: no call after any sequence is answered 0
 pub never-answered-0 : (t : ℕ) → t ≤ tallyLimit → (cs : List Call) (q : Request) → refusal (finalBoard t cs) q ≡ some 0 → ⊥
-never-answered-0 = never-refused-0 demands
+never-answered-0 t fits cs = never-zero t cs (demands .third t fits cs) (demands .first)

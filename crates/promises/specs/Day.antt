@@ -37,7 +37,8 @@ use Rattle.promises.specs.Paper.Requests.{Request, entry, row, a-cut, so
 use Rattle.promises.specs.Paper.Views.{Arcs, no-arc, forth, back, both, PairShows}
 use Rattle.promises.specs.Demands.{InOrder, Demand2, PlanEnds, finalBoard, acceptedBy, Demand3, Demands}
 use Rattle.promises.specs.Consequences.{any-order, any-repeat}
-use Rattle.promises.specs.Samples.{job, marked, arrow, cutTo, day, booked, swapped, repeated, tooLong, apart, crowded, computed, day-facts}
+use Rattle.promises.specs.SampleEntries.{job, marked, arrow, cutTo}
+use Rattle.promises.specs.Samples.{day, booked, swapped, repeated, tooLong, apart, crowded, computed, day-facts}
 
 abbrev dayBoard : Board
 dayBoard = finalBoard 0 day

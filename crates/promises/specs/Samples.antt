@@ -3,7 +3,6 @@ use mathlib.Core.Path.{_≡_, refl, subst⁻¹}
 use mathlib.Core.Bool.{false}
 use mathlib.Core.List.{List, [], _∷_, _++_}
 use mathlib.Core.Option.{none, some}
-use Prim.Native.Nat.{ℕ}
 use native.Mathlib.Omega.{arith}
 use lib.IntN.{pos}
 use lib.ListN.{replicate}
@@ -22,7 +21,7 @@ use Rattle.closure.specs.Find.{guard, _orElse_, first, any, beyond, tooLate, jo
 use Rattle.closure.specs.Closing.{close, closure}
 use Rattle.closure.specs.Check.{nothingLeft, passes}
 use Rattle.entries.specs.Paper.Answers.{ok-number, no-number, replyOf}
-use Rattle.entries.specs.Paper.Entry.{arc, mark, cut, Entry, addition, other}
+use Rattle.entries.specs.Paper.Entry.{Entry}
 use Rattle.entries.specs.Paper.Gate.{checks, gate}
 use Rattle.entries.specs.Paper.Enter.{updateAll, raw, closureWith, enter}
 use Rattle.entries.specs.Paper.Sequence.{byValue, inPlace, Call, after, accepted, impossibles}
@@ -32,24 +31,7 @@ use Rattle.tries.specs.Paper.Tries.{add, startAfter, from, search, tries}
 use Rattle.tries.specs.Paper.Planner.{validJobs}
 use Rattle.promises.specs.Demands.{finalBoard, acceptedBy}
 use Rattle.promises.specs.Paper.Requests.{entry, refusal}
-
--- ---- entries
-
--- a valid job of length l in the window e to d, and an undecided one
-abbrev pub job : ℕ → ℕ → ℕ → Entry
-job l e d = addition (pos l) (pos e) (pos d) (pos 1)
-
-abbrev pub undecided : ℕ → ℕ → ℕ → Entry
-undecided l e d = addition (pos l) (pos e) (pos d) (pos 0)
-
-abbrev pub arrow : ℕ → ℕ → Entry
-arrow a b = other (arc (pos a) (pos b))
-
-abbrev pub marked : ℕ → ℕ → Entry
-marked j m = other (mark (pos j) (pos m))
-
-abbrev pub cutTo : ℕ → ℕ → ℕ → Entry
-cutTo j e d = other (cut (pos j) (pos e) (pos d))
+use Rattle.promises.specs.SampleEntries.{job, undecided, arrow, marked, cutTo}
 
 -- ---- sequences
 
@@ -59,38 +41,24 @@ called e = record { manner = byValue; entry = e }
 abbrev pub calledInPlace : Entry → Call
 calledInPlace e = record { manner = inPlace; entry = e }
 
--- job 0 before job 1 before job 2, and an undecided job; an arc from a job to itself is refused (3), and a cut that leaves job 2 too
--- little room (8)
-abbrev pub day : List Call
-day =
-    called (job 10 0 100)
-    ∷ called (job 20 0 100)
-    ∷ calledInPlace (job 5 0 100)
-    ∷ called (undecided 5 0 100)
-    ∷ calledInPlace (arrow 0 1)
-    ∷ called (arrow 2 2)
-    ∷ called (arrow 1 2)
-    ∷ calledInPlace (cutTo 2 0 34)
-    ∷ []
+abbrev pub calls : List Entry → List Call
+calls [] = []
+calls (e ∷ es) = called e ∷ calls es
 
--- what it accepts before its arcs
+-- three valid jobs and an undecided one
 abbrev pub booked : List Entry
 booked = job 10 0 100 ∷ job 20 0 100 ∷ job 5 0 100 ∷ undecided 5 0 100 ∷ []
 
--- the arcs the other way round
-abbrev pub swapped : List Call
-swapped =
-    called (job 10 0 100)
-    ∷ called (job 20 0 100)
-    ∷ called (job 5 0 100)
-    ∷ called (undecided 5 0 100)
-    ∷ called (arrow 1 2)
-    ∷ called (arrow 0 1)
-    ∷ []
+-- then job 0 before job 1 before job 2; an arc from a job to itself is refused (3), and a cut that leaves job 2 too little room (8)
+abbrev pub day : List Call
+day = calls booked ++ calledInPlace (arrow 0 1) ∷ called (arrow 2 2) ∷ called (arrow 1 2) ∷ calledInPlace (cutTo 2 0 34) ∷ []
 
--- and one of them once more
+-- the arcs the other way round, and one of them once more
+abbrev pub swapped : List Call
+swapped = calls (booked ++ arrow 1 2 ∷ arrow 0 1 ∷ [])
+
 abbrev pub repeated : List Call
-repeated = swapped ++ called (arrow 1 2) ∷ []
+repeated = calls (booked ++ arrow 1 2 ∷ arrow 0 1 ∷ arrow 1 2 ∷ [])
 
 abbrev pub computedDay : Board
 computedDay =
@@ -107,15 +75,15 @@ computedDay =
 
 -- a job, and one that is longer than its window (8)
 abbrev pub tooLong : List Call
-tooLong = called (job 10 0 100) ∷ called (job 10000 0 9999) ∷ []
+tooLong = calls (job 10 0 100 ∷ job 10000 0 9999 ∷ [])
 
 -- a job whose window ends where the next one's begins, one later, and an undecided job that doesn't fit its own
 abbrev pub apart : List Call
-apart = called (job 10 0 10) ∷ called (job 10 10 20) ∷ called (job 10 25 35) ∷ called (undecided 10 0 9) ∷ []
+apart = calls (job 10 0 10 ∷ job 10 10 20 ∷ job 10 25 35 ∷ undecided 10 0 9 ∷ [])
 
 -- three jobs of 10 minutes in 25
 abbrev pub crowded : List Call
-crowded = called (job 10 0 25) ∷ called (job 10 0 25) ∷ called (job 10 0 25) ∷ []
+crowded = calls (job 10 0 25 ∷ job 10 0 25 ∷ job 10 0 25 ∷ [])
 
 -- ---- what is computed
 

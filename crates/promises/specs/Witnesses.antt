@@ -30,7 +30,8 @@ use Rattle.entries.specs.Paper.Enter.{updateAll, raw, closureWith, enter}
 use Rattle.entries.specs.Paper.Looking as Looking
 use Rattle.tries.specs.Paper.Planner as Planner
 use Rattle.promises.specs.RefusalLaws.{refused-table}
-use Rattle.promises.specs.Samples.{job, arrow, marked, cutTo, computedDay}
+use Rattle.promises.specs.SampleEntries.{job, arrow, marked, cutTo}
+use Rattle.promises.specs.Samples.{computedDay}
 use Rattle.promises.specs.Paper.Requests.{Request, entry, row, pair, plan, Sort, an-addition, an-arc, a-mark, a-cut, a-row, a-pair, a-plan, sortOf, refusalsOf, refusal, Met}
 
 -- ---- the boards

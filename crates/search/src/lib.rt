@@ -82,7 +82,7 @@ fn find_pair<'a>(
     found
 }
 
-// What R1, R2 or R3 infers at the first pair at which one applies.
+// What R1, R2 or R3 infers at a pair at which one applies, where there is one.
 fn at_pairs<'a>(
     live: u64,
     valid: u64,

@@ -22,7 +22,7 @@ use Rattle.entries.specs.Paper.Answers.{replyOf}
 use Rattle.entries.specs.Paper.Gate.{gate}
 use Rattle.entries.specs.Paper.Enter.{updateAll, raw, closureWith, enter}
 use Rattle.promises.specs.Paper.Requests.{entryRefusal}
-use Rattle.promises.specs.Samples.{marked}
+use Rattle.promises.specs.SampleEntries.{marked}
 use Rattle.tables.specs.Examples.{gives}
 
 -- ---- boards by their arrays

@@ -32,7 +32,7 @@ use Rattle.tries.specs.Paper.Tries.{add, startAfter, from, search}
 use Rattle.tries.specs.Paper.Planner.{placedWord, startList, plan}
 use Rattle.tries.specs.Paper.Answers.{PlanReply, plan-found, plan-none, plan-spent, no-plan, planReplyOf}
 use Rattle.promises.specs.Paper.Requests.{entryRefusal, planRefusal}
-use Rattle.promises.specs.Samples.{job, undecided, arrow, marked, cutTo}
+use Rattle.promises.specs.SampleEntries.{job, undecided, arrow, marked, cutTo}
 
 -- A line of an example: an entry that is accepted, or refused with a number; or something said of the board after it.
 pub data Line : Type 0 where
