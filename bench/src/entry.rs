@@ -1,5 +1,6 @@
-//! Entries of the board, as the loads make them and both implementations take them.
-use bayboard::Mark;
+//! Entries of the board, as the loads and families make them, and what takes them: every implementation under the same entries.
+use bayboard::{Board, Mark, Refusal};
+use std::fmt;
 
 #[derive(Clone, Copy, Debug, PartialEq, Eq)]
 pub enum Entry {
@@ -22,4 +23,91 @@ pub enum Entry {
         earliest: i32,
         latest: i32,
     },
+}
+
+impl Entry {
+    /// The same entry with time turned round.
+    pub fn mirrored(self) -> Entry {
+        match self {
+            Entry::Addition {
+                length,
+                earliest,
+                latest,
+                mark,
+            } => Entry::Addition {
+                length,
+                earliest: -latest,
+                latest: -earliest,
+                mark,
+            },
+            Entry::Arc { from, to } => Entry::Arc { from: to, to: from },
+            Entry::Mark { .. } => self,
+            Entry::Cut {
+                job,
+                earliest,
+                latest,
+            } => Entry::Cut {
+                job,
+                earliest: -latest,
+                latest: -earliest,
+            },
+        }
+    }
+
+    /// The same entry of the jobs under their numbers.
+    pub fn renumbered(self, numbers: &[usize]) -> Entry {
+        match self {
+            Entry::Addition { .. } => self,
+            Entry::Arc { from, to } => Entry::Arc {
+                from: numbers[from],
+                to: numbers[to],
+            },
+            Entry::Mark { job, mark } => Entry::Mark {
+                job: numbers[job],
+                mark,
+            },
+            Entry::Cut {
+                job,
+                earliest,
+                latest,
+            } => Entry::Cut {
+                job: numbers[job],
+                earliest,
+                latest,
+            },
+        }
+    }
+}
+
+/// As the text program reads it.
+impl fmt::Display for Entry {
+    fn fmt(&self, f: &mut fmt::Formatter<'_>) -> fmt::Result {
+        match *self {
+            Entry::Addition {
+                length,
+                earliest,
+                latest,
+                mark,
+            } => write!(
+                f,
+                "(add (len {length}) (win {earliest} {latest}) (mark {}))",
+                mark as u8
+            ),
+            Entry::Arc { from, to } => write!(f, "(arc {from} {to})"),
+            Entry::Mark { job, mark } => write!(f, "(mark {job} {})", mark as u8),
+            Entry::Cut {
+                job,
+                earliest,
+                latest,
+            } => write!(f, "(cut {job} (win {earliest} {latest}))"),
+        }
+    }
+}
+
+/// An implementation of the board.
+pub trait Enters: Clone {
+    fn enter(&mut self, entry: Entry) -> Result<(), Refusal>;
+
+    /// The board as the library keeps it, for comparisons.
+    fn kept(&self) -> Board;
 }

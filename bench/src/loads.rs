@@ -36,7 +36,7 @@ pub const LOADS: [Load; 6] = [
 ];
 
 /// The generator that depots share: X = (1103515245 X + 12345) mod 2^31, and a draw is X / 65536.
-struct Draws(u64);
+pub struct Draws(pub u64);
 
 impl Draws {
     fn below(&mut self, count: usize) -> usize {
@@ -49,7 +49,7 @@ impl Draws {
     }
 
     /// The numbers below `count` in a random order.
-    fn shuffled(&mut self, count: usize) -> Vec<usize> {
+    pub fn shuffled(&mut self, count: usize) -> Vec<usize> {
         let mut numbers: Vec<usize> = (0..count).collect();
         for last in (1..count).rev() {
             numbers.swap(last, self.below(last + 1));

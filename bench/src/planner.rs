@@ -1,55 +1,63 @@
-//! The planner's tries on the baseline's board, written for speed: one loop with a stack.
+//! The planner's tries on the baseline's board, by recursion: a placing goes on from the longer list, and a return takes it back.
 use crate::baseline::{Board, JOBS};
+use crate::words::{bit, Members};
+use bayboard::Plan;
 
-#[derive(Debug, PartialEq, Eq)]
-pub enum Ending {
+enum Ending {
     Found,
     None,
     Spent,
 }
 
-/// Where a placing that is taken back comes back to.
-#[derive(Clone, Copy, Default)]
-struct Placing {
-    job: usize,
-    left: u64,
-    free: i32,
+struct Planner<'a> {
+    board: &'a Board,
+    starts: [i32; JOBS],
+    /// The tries that are left of the budget.
+    left: u32,
 }
 
-/// How the tries end, and their number.
-pub fn plan(board: &Board, budget: u32) -> (Ending, u32) {
-    let mut stack = [Placing::default(); JOBS];
-    let mut depth = 0;
-    let mut unplaced = board.valid;
-    let mut left = unplaced;
-    let mut free = i32::MIN / 2;
-    let mut tries = 0;
-    while unplaced != 0 {
-        if left == 0 {
-            if depth == 0 {
-                return (Ending::None, tries);
+impl Planner<'_> {
+    /// "it tries valid unplaced jobs in ascending number", where the job placed before ends at `end`.
+    fn go_on(&mut self, unplaced: u64, end: i32) -> Ending {
+        if unplaced == 0 {
+            return Ending::Found;
+        }
+        for job in Members(unplaced) {
+            if self.left == 0 {
+                return Ending::Spent;
             }
-            depth -= 1;
-            let last = stack[depth];
-            unplaced |= 1 << last.job;
-            left = last.left;
-            free = last.free;
-            continue;
+            self.left -= 1;
+            let start = self.board.earliest[job].max(end);
+            let end = start + self.board.length[job];
+            if self.board.before[job] & unplaced != 0 || end > self.board.latest[job] {
+                continue;
+            }
+            self.starts[job] = start;
+            let ending = self.go_on(unplaced & !bit(job), end);
+            if !matches!(ending, Ending::None) {
+                return ending;
+            }
         }
-        if tries == budget {
-            return (Ending::Spent, budget);
-        }
-        tries += 1;
-        let job = left.trailing_zeros() as usize;
-        left &= left - 1;
-        let end = board.earliest[job].max(free) + board.length[job];
-        if board.before[job] & unplaced == 0 && end <= board.latest[job] {
-            stack[depth] = Placing { job, left, free };
-            depth += 1;
-            unplaced &= !(1 << job);
-            left = unplaced;
-            free = end;
-        }
+        Ending::None
     }
-    (Ending::Found, tries)
+}
+
+/// The plan of all valid jobs with at most `budget` tries.
+pub fn plan(board: &Board, budget: u32) -> Plan {
+    let mut planner = Planner {
+        board,
+        starts: [0; JOBS],
+        left: budget,
+    };
+    let ending = planner.go_on(board.valid, i32::MIN);
+    let tries = budget - planner.left;
+    match ending {
+        Ending::Found => Plan::Found {
+            tries,
+            placed: board.valid,
+            starts: planner.starts,
+        },
+        Ending::None => Plan::None { tries },
+        Ending::Spent => Plan::Spent { budget },
+    }
 }

@@ -1,11 +1,10 @@
 //! The proved library under the same entries, with check 0 in every call and without.
-use crate::baseline;
-use crate::entry::Entry;
-use bayboard::{Board, Calls, Refusal};
+use crate::entry::{Enters, Entry};
+use bayboard::{Board, Calls, Dock, Refusal};
 
 /// One entry through the library's calls.
 #[inline(always)]
-pub fn enter(calls: &mut impl Calls, entry: Entry) -> Result<(), Refusal> {
+fn enter(calls: &mut impl Calls, entry: Entry) -> Result<(), Refusal> {
     match entry {
         Entry::Addition {
             length,
@@ -23,17 +22,26 @@ pub fn enter(calls: &mut impl Calls, entry: Entry) -> Result<(), Refusal> {
     }
 }
 
-/// The baseline's board as the library keeps it, for comparisons.
-pub fn as_kept(board: &baseline::Board) -> Board {
-    let mark = |job: usize| (board.valid >> job & 1) as u8 + 2 * (board.invalid >> job & 1) as u8;
-    Board {
-        jobs: board.jobs,
-        lengths: board.length,
-        earliest: board.earliest,
-        latest: board.latest,
-        marks: std::array::from_fn(mark),
-        after: board.after,
-        before: board.before,
-        tally: board.tally,
+/// On a checked board.
+impl Enters for Dock {
+    #[inline(always)]
+    fn enter(&mut self, entry: Entry) -> Result<(), Refusal> {
+        enter(self, entry)
+    }
+
+    fn kept(&self) -> Board {
+        *self.board()
+    }
+}
+
+/// With check 0 in every call.
+impl Enters for Board {
+    #[inline(always)]
+    fn enter(&mut self, entry: Entry) -> Result<(), Refusal> {
+        enter(self, entry)
+    }
+
+    fn kept(&self) -> Board {
+        *self
     }
 }

@@ -8,3 +8,9 @@ pub mod Order
 pub mod Rows
 pub mod Updated
 pub mod Appended
+pub mod Filled
+pub mod Places
+pub mod Strike
+pub mod StrikeLaws
+pub mod Excluded
+pub mod Shown

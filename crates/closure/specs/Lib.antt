@@ -12,3 +12,7 @@ pub mod Stepping
 pub mod Checked
 pub mod ClosureLeast
 pub mod Due
+pub mod Reads
+pub mod Timely
+pub mod Advances
+pub mod InPlace

@@ -18,7 +18,7 @@ use Rattle.board.specs.Order.Laws.{live-down, arc-up, bound-up}
 use Rattle.board.specs.Update.Extension.{Above}
 use Rattle.board.specs.Paper.Tests.{live}
 use Rattle.board.specs.Tests.Live.{live-yes, live-show}
-use Rattle.propagation.specs.Applies.{bound-time}
+use Rattle.propagation.specs.Bounds.{bound-time}
 use Rattle.closure.specs.Closing.{steps}
 use Rattle.board.specs.Tests.Decides.{Decides, _and_, negated, holds, live-is}
 

@@ -1,6 +1,7 @@
 // Check 0: "the board handed in breaks a limit above, keeps something twice that doesn't agree, or isn't closed over what it
 // shows".
 use board::Board;
+use limits::marked::sets;
 use limits::within_limits;
 use rules::Found;
 use search::find;
@@ -14,7 +15,16 @@ pub fn passes(b: Board) -> bool
     if !within_limits(b) {
         return false;
     }
-    let found = find(b, 0);
+    let sets = sets(b.jobs, &b.marks);
+    let found = find(
+        sets.live,
+        sets.valid,
+        &b.earliest,
+        &b.latest,
+        &b.lengths,
+        &b.before,
+        &b.after,
+    );
     if let Found::Nothing = found {
         true
     } else {

@@ -1,17 +1,109 @@
-// Where a fact begins to work: the jobs that it is about, from which propagation starts.
+// Where a fact begins to work: what propagation has to look at first on a board that shows it, where nothing else is left to do.
+use board::Board;
 use board::facts::Fact;
+use board::facts::Side;
+use propagation::agenda::Agenda;
+use propagation::agenda::nothing;
+ghost use Prim.Native.Nat.{_<_};
 ghost use Rattle.board.specs.Paper.Facts.{Known};
 ghost use Rattle.board.specs.Paper.Limits.{jobLimit};
 ghost use Rattle.board.specs.Paper.Values.{factOf};
 
+// A job whose window was moved on one side. A valid one moves the jobs on its other side.
+fn moved<'a>(
+    side: Side,
+    job: usize,
+    marks: &'a [u8; Board::JOBS],
+    after: &'a [u64; Board::JOBS],
+    before: &'a [u64; Board::JOBS],
+) -> Agenda
+    requires { ⌜ job < jobLimit ⌝ }
+{
+    let it = words::with(0, job);
+    let pushes = marks[job] == Board::VALID;
+    let mut due = nothing();
+    match side {
+        Side::Early => {
+            due.raised = it;
+            due.early = if pushes { after[job] } else { 0 };
+        }
+        Side::Late => {
+            due.lowered = it;
+            due.late = if pushes { before[job] } else { 0 };
+        }
+    }
+    due
+}
+
+// A new arc: only a valid job moves the other one, and joins others through itself.
+fn joined(from: usize, to: usize, marks: &[u8; Board::JOBS]) -> Agenda
+    requires { ⌜ (from < jobLimit) × (to < jobLimit) ⌝ }
+{
+    let mut due = nothing();
+    if marks[from] == Board::VALID {
+        due.early = words::with(0, to);
+        due.joins = words::with(0, from);
+    }
+    if marks[to] == Board::VALID {
+        due.late = words::with(0, from);
+        due.joins = words::with(due.joins, to);
+    }
+    due.ends = due.joins;
+    due
+}
+
+// A job that takes place from now on: what is before it and after it moves.
+fn validated<'a>(
+    job: usize,
+    after: &'a [u64; Board::JOBS],
+    before: &'a [u64; Board::JOBS],
+) -> Agenda
+    requires { ⌜ job < jobLimit ⌝ }
+{
+    let it = words::with(0, job);
+    let mut due = nothing();
+    due.early = after[job];
+    due.late = before[job];
+    due.joins = it;
+    due.ends = it;
+    due
+}
+
 // An invalid mark gives rise to nothing: it takes a job and its arcs away.
-pub fn concerned(fact: Fact) -> u64
+pub fn concerned<'a>(
+    fact: Fact,
+    marks: &'a [u8; Board::JOBS],
+    after: &'a [u64; Board::JOBS],
+    before: &'a [u64; Board::JOBS],
+) -> Agenda
     requires { ⌜ Known jobLimit (factOf fact) ⌝ }
 {
     match fact {
-        Fact::Arc { from, to } => words::with(words::with(0, from), to),
-        Fact::Bound { job, .. } => words::with(0, job),
-        Fact::Valid { job } => words::with(0, job),
-        Fact::Invalid { .. } => 0,
+        Fact::Arc { from, to } => joined(from, to, marks),
+        Fact::Bound { side, job, .. } => moved(side, job, marks, after, before),
+        Fact::Valid { job } => validated(job, after, before),
+        Fact::Invalid { .. } => nothing(),
+    }
+}
+
+// A job added: it has no arcs yet.
+pub fn added(job: usize) -> Agenda
+    requires { ⌜ job < jobLimit ⌝ }
+{
+    let mut due = nothing();
+    due.raised = words::with(0, job);
+    due.lowered = words::with(0, job);
+    due
+}
+
+// What both of two facts give rise to.
+pub fn both(some: Agenda, others: Agenda) -> Agenda {
+    Agenda {
+        early: words::union(some.early, others.early),
+        late: words::union(some.late, others.late),
+        raised: words::union(some.raised, others.raised),
+        lowered: words::union(some.lowered, others.lowered),
+        joins: words::union(some.joins, others.joins),
+        ends: words::union(some.ends, others.ends),
     }
 }

@@ -34,7 +34,7 @@ impl Dock {
         if self.passes() {
             calls::addition(self.board, length, earliest, latest, mark)
         } else {
-            calls::refused(Refusal::Board, self.board)
+            statements::refused(Refusal::Board, self.board)
         }
     }
 
@@ -45,7 +45,7 @@ impl Dock {
         if self.passes() {
             calls::arc(self.board, from, to)
         } else {
-            calls::refused(Refusal::Board, self.board)
+            statements::refused(Refusal::Board, self.board)
         }
     }
 
@@ -56,7 +56,7 @@ impl Dock {
         if self.passes() {
             calls::mark(self.board, job, mark)
         } else {
-            calls::refused(Refusal::Board, self.board)
+            statements::refused(Refusal::Board, self.board)
         }
     }
 
@@ -67,7 +67,7 @@ impl Dock {
         if self.passes() {
             calls::cut(self.board, job, earliest, latest)
         } else {
-            calls::refused(Refusal::Board, self.board)
+            statements::refused(Refusal::Board, self.board)
         }
     }
 

@@ -36,7 +36,7 @@ fn bound(side: Side, times: &[i32; Board::JOBS], k: usize) -> i32
 }
 
 // The bound that the job at place k leaves to the jobs beyond it.
-fn end(side: Side, times: &[i32; Board::JOBS], lengths: &[i32; Board::JOBS], k: usize) -> i32
+pub fn end(side: Side, times: &[i32; Board::JOBS], lengths: &[i32; Board::JOBS], k: usize) -> i32
     requires { ⌜ energy.Times (now times) × energy.Lengths (now lengths) × (k < jobLimit) ⌝ }
     ensures { λ r. ⌜ r ≡ energy.endAt (paper.sideOf side) (now (times .entry)) (now (lengths .entry)) k ⌝ }
 {

@@ -1,8 +1,9 @@
 -- Propagation: passes that apply one rule all over the board.
 pub mod Reaches
-pub mod Applies
+pub mod Gone
+pub mod Bounds
 pub mod Arcs
 pub mod Transitivity
 pub mod Detection
 pub mod Precedence
-pub mod Rounds
+pub mod Turns

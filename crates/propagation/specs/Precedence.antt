@@ -1,7 +1,7 @@
 -- Precedence propagation is sound: the bound that valid jobs on one side of a job leave to it is what R4 or R5 infers, and to
 -- store it where the job still fits is the update by that bound.
 use mathlib.Core.Path.{_≡_, refl, sym, _∙_, subst}
-use mathlib.Core.Bool.{Bool, true}
+use mathlib.Core.Bool.{Bool, true, false}
 use mathlib.Core.List.{List, [], _∷_}
 use mathlib.Core.Option.{some}
 use Prim.Native.Nat.{ℕ, zero, suc}
@@ -9,7 +9,7 @@ use lib.IntN.{ℤ, pos, _+ℤ_}
 use lib.ListN.{getD, set}
 use lib.Seq.{set-getD}
 use lib.Signed.{leZ, ltZ, _≤ℤ_, _<ℤ_}
-use Rattle.words.specs.Bit.{bit}
+use Rattle.words.specs.Bit.{bit, with, union}
 use Rattle.words.specs.BitLaws.{bit-intersection}
 use Rattle.minutes.specs.Bools.{and-parts, is-true}
 use Rattle.minutes.specs.Linear.{whole, plus, minus}
@@ -27,7 +27,8 @@ use Rattle.energy.specs.Exact.{timesOf}
 use Rattle.energy.specs.Laws.{turned-back, sum-range}
 use Rattle.rules.specs.BoundBeyond.{pushing}
 use Rattle.rules.specs.JobSearched.{wordsOf, beyond-bit, sum-infers}
-use Rattle.propagation.specs.Applies.{turned-moderate}
+use Rattle.propagation.specs.Bounds.{turned-moderate}
+use Rattle.propagation.specs.Gone.{Gone, AllGone, Short, none-gone, only, both-gone, gone-before, gone-short}
 use Rattle.propagation.specs.Reaches.{Reached, Reaches, reached-self, reaches-then, further}
 
 -- a board's times on the other side than s
@@ -64,6 +65,10 @@ withTimes late b times =
 abbrev pub Raises : Side → (Board → Type 0) → List ℤ → List ℤ → Type 0
 Raises s P times times' = (b : Board) → Within (withTimes s b times) → P (withTimes s b times) → Reached (withTimes s b times) (withTimes s b times')
 
+-- on any such board the jobs of a set can't stay
+abbrev pub Shuts : Side → (Board → Type 0) → List ℤ → ℕ → Type 0
+Shuts s P times stuck = (b : Board) → Within (withTimes s b times) → P (withTimes s b times) → AllGone (withTimes s b times) stuck
+
 -- the rest of the board as the code reads it: the times on the other side, the lengths, the words of the jobs beyond each job on
 -- side s, and valid jobs
 pub record Reads (s : Side) (fixed lengths : List ℤ) (beyond : List ℕ) (valids : ℕ) (b : Board) : Type 0 where
@@ -76,6 +81,10 @@ pub record Reads (s : Side) (fixed lengths : List ℤ) (beyond : List ℕ) (vali
 abbrev pub room : Side → ℤ → ℤ → ℤ → Bool
 room early t fixed length = leZ (t +ℤ length) fixed
 room late t fixed length = leZ (fixed +ℤ length) t
+
+short : (s : Side) (b : Board) (j : ℕ) (t : ℤ) → room s t (getD (fixedOf b s) j (pos 0)) (lengthAt (b .lengths) j) ≡ false → Short s t (view b) j
+short early b j t e = omega whole
+short late b j t e = omega whole
 
 -- arcs join live jobs
 beyond-live : (b : Board) → Within b → (s : Side) (j k : ℕ) → Beyond (view b) s k j → Live (view b) j
@@ -136,6 +145,21 @@ module _ (s : Side) (fixed lengths : List ℤ) (beyond : List ℕ) (valids : ℕ
       let same = moved s b times' j t live above (rw (rest .is-fixed, rest .is-lengths) fits) in
       subst (Reaches (withTimes s b times)) same (further (withTimes s b times) c reached (is-bound s j (turned s t)) infers)
 
+  pub shuts-none : Shuts s (Reads s fixed lengths beyond valids) times 0
+  shuts-none b h p = none-gone (withTimes s b times)
+
+  -- a job that does not fit with its bound
+  pub shuts-job : (j : ℕ) (t : ℤ) → Pushes s times lengths (pushing beyond valids j) j (some (turned s t))
+      → room s t (getD fixed j (pos 0)) (lengthAt lengths j) ≡ false
+      → (it : ℕ) → it ≡ with 0 j → Shuts s (Reads s fixed lengths beyond valids) times it
+  shuts-job j t push full it e b h p =
+      let c = withTimes s b times in
+      let pushed : Pushes s (timesOf c s) (c .lengths) (pushing (wordsOf c s) valids j) j (some (turned s t)) =
+      rw (times-are s b times, p .is-lengths, p .is-beyond) push in
+      let (live, infers) = pushes-infers c h valids (p .sound) s j (turned s t) pushed in
+      let gone : Gone c j = gone-short c s j t live infers (short s c j t (rw (p .is-fixed, p .is-lengths) full)) in
+      record { gone = λ x m. subst (Gone c) (only j x (rw e at m)) gone }
+
   -- one run after another
   pub raises-on : (times' times'' : List ℤ) → Raises s (Reads s fixed lengths beyond valids) times times'
       → Raises s (Reads s fixed lengths beyond valids) times' times'' → Raises s (Reads s fixed lengths beyond valids) times times''
@@ -143,6 +167,20 @@ module _ (s : Side) (fixed lengths : List ℤ) (beyond : List ℕ) (valids : ℕ
       let reached = run b h p in
       let rest = more b (reached .more .within) (same-rest s b times times' fixed lengths beyond valids p) in
       reaches-then (withTimes s b times) (withTimes s b times') reached (some (withTimes s b times'')) rest
+
+-- some moves, and what can't stay, then more of both
+pub pushed-on : (s : Side) (fixed lengths : List ℤ) (beyond : List ℕ) (valids : ℕ) (times times' times'' : List ℤ) (first others all : ℕ)
+    → let read = Reads s fixed lengths beyond valids in
+    Raises s read times times' → Shuts s read times first → Raises s read times' times'' × Shuts s read times' others → all ≡ union first others
+    → Raises s read times times'' × Shuts s read times all
+pushed-on s fixed lengths beyond valids times times' times'' first others all run shut (more, later) e = (
+  raises-on s fixed lengths beyond valids times times' times'' run more,
+  λ b h p.
+      let reached = run b h p in
+      let before = gone-before (withTimes s b times) (withTimes s b times') reached others
+      (later b (reached .more .within) (same-rest s b times times' fixed lengths beyond valids p)) in
+      both-gone (withTimes s b times) first others (shut b h p) before all e,
+)
 
 -- ---- the times stay times
 

@@ -1,64 +1,149 @@
 // Propagation: each rule applied where something may have changed, and from there on as far as it leads. It is sound and need not be
 // complete: it leaves the search little to find.
+use crate::agenda::Agenda;
+use crate::agenda::among;
+use crate::agenda::checked;
+use crate::agenda::detected;
+use crate::agenda::is_done;
+use crate::agenda::joined;
+use crate::agenda::moved_on;
+use crate::agenda::pushed;
 use crate::detection::detect_arcs;
-use crate::precedence::Pushed;
+use crate::exclusion::excluded;
+use crate::exclusion::unfit;
+use crate::precedence::frontier;
 use crate::precedence::push;
 use crate::transitivity::join_arcs;
 use board::Board;
 use board::facts::Side;
-use limits::marked::live;
-use limits::marked::marked;
-ghost use Rattle.board.specs.Paper.Limits.{Within};
+ghost use mathlib.Core.List.{List};
+ghost use lib.IntN.{ℤ};
 ghost use Rattle.energy.specs.Energy.{Times, Lengths};
-ghost use Rattle.propagation.specs.Reaches.{Reached};
-ghost use Rattle.propagation.specs.Arcs.{Sound};
-ghost use Rattle.propagation.specs.Rounds.{Marked, Onward};
+ghost use Rattle.propagation.specs.Turns.{Onward, Shut};
 
-pub mod arcs;
+pub mod agenda;
 pub mod detection;
+pub mod ends;
+pub mod exclusion;
 pub mod precedence;
 pub mod transitivity;
 
-// How many rounds there are at the most. What a round leaves the next one finds, and what the last one leaves the search does.
-const ROUNDS: usize = 16;
+// How many turns there are at the most. What they leave the search finds.
+const TURNS: usize = 65536;
 
-// The arcs that R3 infers at the jobs that are due, and those that R1 infers from these. Gives the jobs that are due now: the same, and
-// those at the ends of new arcs.
-fn set_arcs<'a>(
+// What is left to do after a turn, and the jobs found that can't stay.
+pub struct Turned {
+    pub left: Agenda,
+    pub stuck: u64,
+}
+
+// R2 and R1 at new arcs. R2 comes first: on a cycle of valid jobs the windows would move on and on.
+fn turn_arcs(
     before: &mut [u64; Board::JOBS],
     after: &mut [u64; Board::JOBS],
-    due: u64,
     live: u64,
     valid: u64,
+    left: Agenda,
+) -> Turned
+    ensures { λ r. ⌜ ((lengths earliest latest : List ℤ) → Onward live valid lengths earliest latest (now (before .entry)) (now (after .entry)) earliest latest (now (before .exit)) (now (after .exit))) ⌝ }
+    ensures { λ r. ⌜ ((lengths earliest latest : List ℤ) → Shut live valid lengths earliest latest (now (before .entry)) (now (after .entry)) (r .stuck)) ⌝ }
+{
+    if left.ends != 0 {
+        let set = words::intersection(left.ends, valid);
+        let stuck = excluded(set, before, after);
+        return Turned {
+            left: checked(left),
+            stuck,
+        };
+    }
+    let through = words::intersection(left.joins, valid);
+    let found = join_arcs(before, after, through, live);
+    Turned {
+        left: joined(left, found),
+        stuck: 0,
+    }
+}
+
+// R6 and R3 at the jobs whose windows have moved.
+fn turn_order<'a>(
+    before: &mut [u64; Board::JOBS],
+    after: &mut [u64; Board::JOBS],
     earliest: &'a [i32; Board::JOBS],
     latest: &'a [i32; Board::JOBS],
     lengths: &'a [i32; Board::JOBS],
-) -> u64
-    requires { ⌜ Times (now earliest) × Lengths (now lengths) ⌝ }
-    ensures { λ r. ⌜ Sound (Marked live valid (now (earliest .entry)) (now (latest .entry)) (now (lengths .entry))) (now (before .entry)) (now (after .entry)) (now (before .exit)) (now (after .exit)) ⌝ }
+    live: u64,
+    valid: u64,
+    left: Agenda,
+) -> Turned
+    requires { ⌜ Times (now earliest) × Times (now latest) × Lengths (now lengths) ⌝ }
+    ensures { λ r. ⌜ Onward live valid (now (lengths .entry)) (now (earliest .entry)) (now (latest .entry)) (now (before .entry)) (now (after .entry)) (now (earliest .entry)) (now (latest .entry)) (now (before .exit)) (now (after .exit)) ⌝ }
+    ensures { λ r. ⌜ Shut live valid (now (lengths .entry)) (now (earliest .entry)) (now (latest .entry)) (now (before .entry)) (now (after .entry)) (r .stuck) ⌝ }
 {
-    let found = detect_arcs(before, after, due, live, earliest, latest, lengths);
-    let detected = words::union(due, found);
-    let through = words::intersection(detected, valid);
-    words::union(detected, join_arcs(before, after, through))
-}
-
-// Has a job of the set arcs both ways to another?
-fn crosses<'a>(set: u64, before: &'a [u64; Board::JOBS], after: &'a [u64; Board::JOBS]) -> bool {
-    let mut left = set;
-    while left != 0 {
-        let k = words::lowest(left);
-        left = words::without(left, k);
-        if words::intersection(before[k], after[k]) != 0 {
-            return true;
-        }
+    let moved = words::union(left.raised, left.lowered);
+    let stuck = unfit(words::intersection(moved, live), earliest, latest, lengths);
+    if stuck != 0 {
+        return Turned { left, stuck };
     }
-    false
+    let side = if left.raised != 0 {
+        Side::Early
+    } else {
+        Side::Late
+    };
+    let due = moved_on(left, side);
+    let found = detect_arcs(
+        side,
+        before,
+        after,
+        due,
+        live,
+        valid,
+        earliest,
+        latest,
+        lengths,
+    );
+    Turned {
+        left: detected(left, side, found),
+        stuck: 0,
+    }
 }
 
-// One round: the arcs before the windows, since the windows move along them. Where R2 applies a mark has to change first: on a cycle of valid
-// jobs the windows would move on and on.
-fn round(
+// R4, and where it has nothing to do R5, at the jobs that come first in topological order.
+fn turn_windows<'a>(
+    earliest: &mut [i32; Board::JOBS],
+    latest: &mut [i32; Board::JOBS],
+    lengths: &'a [i32; Board::JOBS],
+    before: &'a [u64; Board::JOBS],
+    after: &'a [u64; Board::JOBS],
+    live: u64,
+    valid: u64,
+    left: Agenda,
+) -> Turned
+    requires { ⌜ Times (now earliest) × Times (now latest) × Lengths (now lengths) ⌝ }
+    ensures { λ r. ⌜ Times (now (earliest .exit)) × Times (now (latest .exit)) ⌝ }
+    ensures { λ r. ⌜ Onward live valid (now (lengths .entry)) (now (earliest .entry)) (now (latest .entry)) (now (before .entry)) (now (after .entry)) (now (earliest .exit)) (now (latest .exit)) (now (before .entry)) (now (after .entry)) ⌝ }
+    ensures { λ r. ⌜ Shut live valid (now (lengths .entry)) (now (earliest .entry)) (now (latest .entry)) (now (before .entry)) (now (after .entry)) (r .stuck) ⌝ }
+{
+    if left.early != 0 {
+        let set = frontier(left.early, valid, before, after);
+        let side = Side::Early;
+        let step = push(side, set, earliest, latest, lengths, before, after, valid);
+        return Turned {
+            left: pushed(left, Side::Early, set, step),
+            stuck: step.stuck,
+        };
+    }
+    let set = frontier(left.late, valid, after, before);
+    let side = Side::Late;
+    let step = push(side, set, latest, earliest, lengths, after, before, valid);
+    Turned {
+        left: pushed(left, Side::Late, set, step),
+        stuck: step.stuck,
+    }
+}
+
+// One turn, of what is to be done first: the arcs before the windows, since the windows move along them, and a job's arcs as soon as it
+// has moved, before it moves others.
+fn turn(
     earliest: &mut [i32; Board::JOBS],
     latest: &mut [i32; Board::JOBS],
     before: &mut [u64; Board::JOBS],
@@ -66,86 +151,49 @@ fn round(
     lengths: &[i32; Board::JOBS],
     live: u64,
     valid: u64,
-    due: u64,
-) -> Pushed
+    left: Agenda,
+) -> Turned
+    requires { ⌜ Times (now earliest) × Times (now latest) × Lengths (now lengths) ⌝ }
+    ensures { λ r. ⌜ Times (now (earliest .exit)) × Times (now (latest .exit)) ⌝ }
+    ensures { λ r. ⌜ Onward live valid (now (lengths .entry)) (now (earliest .entry)) (now (latest .entry)) (now (before .entry)) (now (after .entry)) (now (earliest .exit)) (now (latest .exit)) (now (before .exit)) (now (after .exit)) ⌝ }
+    ensures { λ r. ⌜ Shut live valid (now (lengths .entry)) (now (earliest .entry)) (now (latest .entry)) (now (before .entry)) (now (after .entry)) (r .stuck) ⌝ }
+{
+    if words::union(left.ends, left.joins) != 0 {
+        return turn_arcs(before, after, live, valid, left);
+    }
+    if words::union(left.raised, left.lowered) != 0 {
+        return turn_order(before, after, earliest, latest, lengths, live, valid, left);
+    }
+    turn_windows(earliest, latest, lengths, before, after, live, valid, left)
+}
+
+// Turn after turn, until nothing is left to do, or a valid job can't stay: then there is no board. Gives the jobs that can't stay, since they no
+// longer fit their windows or have arcs both ways to a valid job; nothing more is asked of them.
+pub fn propagate(
+    earliest: &mut [i32; Board::JOBS],
+    latest: &mut [i32; Board::JOBS],
+    before: &mut [u64; Board::JOBS],
+    after: &mut [u64; Board::JOBS],
+    lengths: &[i32; Board::JOBS],
+    live: u64,
+    valid: u64,
+    due: Agenda,
+) -> u64
     requires { ⌜ Times (now earliest) × Times (now latest) × Lengths (now lengths) ⌝ }
     ensures { λ r. ⌜ Onward live valid (now (lengths .entry)) (now (earliest .entry)) (now (latest .entry)) (now (before .entry)) (now (after .entry)) (now (earliest .exit)) (now (latest .exit)) (now (before .exit)) (now (after .exit)) ⌝ }
+    ensures { λ r. ⌜ Shut live valid (now (lengths .entry)) (now (earliest .entry)) (now (latest .entry)) (now (before .entry)) (now (after .entry)) r ⌝ }
 {
-    let arcs = set_arcs(before, after, due, live, valid, earliest, latest, lengths);
-    if crosses(words::intersection(arcs, valid), before, after) {
-        return Pushed { moved: 0, stuck: 0 };
-    }
-    let raised = push(
-        Side::Early,
-        earliest,
-        latest,
-        lengths,
-        before,
-        after,
-        valid,
-        arcs,
-    );
-    let lowered = push(
-        Side::Late,
-        latest,
-        earliest,
-        lengths,
-        after,
-        before,
-        valid,
-        arcs,
-    );
-    Pushed {
-        moved: words::union(raised.moved, lowered.moved),
-        stuck: words::union(raised.stuck, lowered.stuck),
-    }
-}
-
-// The board, and a job that no longer fits its window, where there is one.
-pub struct Propagated {
-    pub board: Board,
-    pub stuck: u64,
-}
-
-// The jobs that are due next: those that moved, and none where one is stuck.
-fn next_round(last: Pushed) -> u64 {
-    if last.stuck == 0 { last.moved } else { 0 }
-}
-
-// Round after round, from the jobs that are due.
-pub fn propagate(b: Board, due: u64) -> Propagated
-    requires { ⌜ Within b ⌝ }
-    ensures { λ r. ⌜ Reached b (r .board) ⌝ }
-{
-    let live = live(b.jobs, &b.marks);
-    let valid = marked(b.jobs, &b.marks, Board::VALID);
-    let mut earliest = b.earliest;
-    let mut latest = b.latest;
-    let mut before = b.before;
-    let mut after = b.after;
     let mut left = due;
+    let mut rest = live;
     let mut stuck = 0;
-    for _ in 0..ROUNDS {
-        if left == 0 {
+    for _ in 0..TURNS {
+        if is_done(left) || words::intersection(stuck, valid) != 0 {
             break;
         }
-        let last = round(
-            &mut earliest,
-            &mut latest,
-            &mut before,
-            &mut after,
-            &b.lengths,
-            live,
-            valid,
-            left,
-        );
-        stuck = last.stuck;
-        left = next_round(last);
+        let next = turn(earliest, latest, before, after, lengths, rest, valid, left);
+        stuck = words::union(stuck, next.stuck);
+        rest = words::difference(rest, next.stuck);
+        left = among(next.left, rest);
     }
-    let mut board = b;
-    board.earliest = earliest;
-    board.latest = latest;
-    board.before = before;
-    board.after = after;
-    Propagated { board, stuck }
+    stuck
 }

@@ -6,18 +6,13 @@ use rules::job::bound_beyond;
 use rules::job::last;
 use windows::Window;
 ghost use mathlib.Core.Path.{_≡_};
-ghost use mathlib.Core.Bool.{true};
-ghost use mathlib.Core.Logic.{_≢_};
 ghost use Prim.Native.Nat.{_<_};
-ghost use Rattle.words.specs.Bit.{bit};
+ghost use Rattle.words.specs.Bit.{union};
 ghost use Rattle.minutes.specs.Time.{Moderate};
 ghost use Rattle.board.specs.Paper.Limits.{jobLimit};
 ghost use Rattle.board.specs.Paper.Values.{sideOf};
 ghost use Rattle.energy.specs.Energy.{Times, Lengths};
 ghost use Rattle.propagation.specs.Precedence as windows;
-
-// How many jobs a pass visits at the most. More are due only where valid jobs lie on a cycle, and a cycle is a contradiction.
-const VISITS: usize = 256;
 
 // R6: does a job of that length fit between its new time on one side and the other end of its window?
 fn holds(side: Side, time: i32, fixed: i32, length: i32) -> bool
@@ -42,22 +37,76 @@ fn holds(side: Side, time: i32, fixed: i32, length: i32) -> bool
     }
 }
 
-// The next job in topological order: a valid one, where any is due, with no other valid one that is due beyond it.
-fn next_job(due: u64, valid: u64, beyond: &[u64; Board::JOBS]) -> usize
-    requires { ⌜ due ≢ 0 ⌝ }
-    ensures { λ r. ⌜ r < jobLimit ⌝ }
-{
-    let pushing = words::intersection(due, valid);
-    if pushing == 0 {
-        return words::lowest(due);
+// The jobs of a set with no job of `pushing` beyond them.
+fn unpushed(set: u64, pushing: u64, beyond: &[u64; Board::JOBS]) -> u64 {
+    let mut found = 0;
+    let mut left = set;
+    while left != 0 {
+        let k = words::lowest(left);
+        left = words::without(left, k);
+        if words::intersection(beyond[k], pushing) == 0 {
+            found = words::with(found, k);
+        }
     }
-    last(pushing, beyond)
+    found
 }
 
-// The jobs that moved, and a job that can't move as far as it has to: it no longer fits its window, where there is one.
+// The jobs to move next, in topological order: those that are due with no valid one that is due beyond them. What lies behind
+// a first one of them has to wait.
+pub fn frontier<'a>(
+    due: u64,
+    valid: u64,
+    beyond: &'a [u64; Board::JOBS],
+    opposite: &'a [u64; Board::JOBS],
+) -> u64 {
+    let pushing = words::intersection(due, valid);
+    if pushing == 0 {
+        return due;
+    }
+    let first = last(pushing, beyond);
+    let beside = words::difference(words::without(due, first), opposite[first]);
+    words::with(unpushed(beside, pushing, beyond), first)
+}
+
+// The jobs that moved, those that can't move as far as they have to, since they no longer fit their windows, and those that may have to
+// move in their turn.
 pub struct Pushed {
     pub moved: u64,
     pub stuck: u64,
+    pub next: u64,
+}
+
+fn unmoved() -> Pushed
+    ensures { λ r. ⌜ r .stuck ≡ 0 ⌝ }
+{
+    Pushed {
+        moved: 0,
+        stuck: 0,
+        next: 0,
+    }
+}
+
+// A job that moved. A valid one moves what is on its other side.
+fn moved(job: usize, valid: u64, opposite: u64) -> Pushed
+    requires { ⌜ job < jobLimit ⌝ }
+    ensures { λ r. ⌜ r .stuck ≡ 0 ⌝ }
+{
+    let next = if words::has(valid, job) { opposite } else { 0 };
+    Pushed {
+        moved: words::with(0, job),
+        stuck: 0,
+        next,
+    }
+}
+
+fn both(some: Pushed, others: Pushed) -> Pushed
+    ensures { λ r. ⌜ r .stuck ≡ union (some .stuck) (others .stuck) ⌝ }
+{
+    Pushed {
+        moved: words::union(some.moved, others.moved),
+        stuck: words::union(some.stuck, others.stuck),
+        next: words::union(some.next, others.next),
+    }
 }
 
 // A job's bound on one side put to what the valid jobs beyond it leave to it, where the job still fits.
@@ -74,70 +123,49 @@ fn push_job<'a>(
     requires { ⌜ (job < jobLimit) × Times (now times) × Times (now fixed) × Lengths (now lengths) ⌝ }
     ensures { λ r. ⌜ Times (now (times .exit)) ⌝ }
     ensures { λ r. ⌜ windows.Raises (sideOf side) (windows.Reads (sideOf side) (now (fixed .entry)) (now (lengths .entry)) (now (beyond .entry)) valid) (now (times .entry)) (now (times .exit)) ⌝ }
+    ensures { λ r. ⌜ windows.Shuts (sideOf side) (windows.Reads (sideOf side) (now (fixed .entry)) (now (lengths .entry)) (now (beyond .entry)) valid) (now (times .entry)) (r .stuck) ⌝ }
 {
     let bound = bound_beyond(side, job, times, lengths, beyond, opposite, valid);
     let EnergyBound::At(time) = bound else {
-        return Pushed { moved: 0, stuck: 0 };
+        return unmoved();
     };
-    let it = words::with(0, job);
     if holds(side, time, fixed[job], lengths[job]) {
         times[job] = time;
-        return Pushed {
-            moved: it,
-            stuck: 0,
-        };
+        return moved(job, valid, opposite[job]);
     }
     Pushed {
         moved: 0,
-        stuck: it,
+        stuck: words::with(0, job),
+        next: 0,
     }
 }
 
-// The jobs that `job` may push in its turn, where it moved.
-fn next_due(moved: u64, job: usize, valid: u64, opposite: u64) -> u64
-    requires { ⌜ job < jobLimit ⌝ }
-{
-    if words::has(words::intersection(moved, valid), job) {
-        opposite
-    } else {
-        0
-    }
-}
-
-// One pass over the jobs that are due, on one side. It ends where a job is stuck: then a mark has to change.
+// Each job of a set moved on one side. It ends where a valid job is stuck: then there is no board.
 pub fn push<'a>(
     side: Side,
+    set: u64,
     times: &mut [i32; Board::JOBS],
     fixed: &'a [i32; Board::JOBS],
     lengths: &'a [i32; Board::JOBS],
     beyond: &'a [u64; Board::JOBS],
     opposite: &'a [u64; Board::JOBS],
     valid: u64,
-    due: u64,
 ) -> Pushed
     requires { ⌜ Times (now times) × Times (now fixed) × Lengths (now lengths) ⌝ }
     ensures { λ r. ⌜ Times (now (times .exit)) ⌝ }
     ensures { λ r. ⌜ windows.Raises (sideOf side) (windows.Reads (sideOf side) (now (fixed .entry)) (now (lengths .entry)) (now (beyond .entry)) valid) (now (times .entry)) (now (times .exit)) ⌝ }
+    ensures { λ r. ⌜ windows.Shuts (sideOf side) (windows.Reads (sideOf side) (now (fixed .entry)) (now (lengths .entry)) (now (beyond .entry)) valid) (now (times .entry)) (r .stuck) ⌝ }
 {
-    let mut moved = 0;
-    let mut left = due;
-    for _ in 0..VISITS {
-        if left == 0 {
-            return Pushed { moved, stuck: 0 };
-        }
-        let job = next_job(left, valid, beyond);
+    let mut all = unmoved();
+    let mut left = set;
+    while left != 0 {
+        let job = words::lowest(left);
+        left = words::without(left, job);
         let step = push_job(side, job, times, fixed, lengths, beyond, opposite, valid);
-        if step.stuck != 0 {
-            return Pushed {
-                moved,
-                stuck: step.stuck,
-            };
+        all = both(all, step);
+        if words::intersection(all.stuck, valid) != 0 {
+            break;
         }
-        moved = words::union(moved, step.moved);
-        left = words::union(
-            words::without(left, job),
-            next_due(step.moved, job, valid, opposite[job]),
-        );
     }
-    Pushed { moved, stuck: 0 }
+    all
 }

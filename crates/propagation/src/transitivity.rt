@@ -1,13 +1,15 @@
 // Transitivity: what R1 infers through each valid job in turn, from all jobs before it to all after it, as in Warshall's
 // algorithm.
-use crate::arcs::ends;
-use crate::arcs::link;
+use crate::ends::Ends;
+use crate::ends::all_ends;
+use crate::ends::ends_at;
+use crate::ends::no_ends;
 use board::Board;
-ghost use mathlib.Core.Path.{_≡_};
+use updates::link;
 ghost use Prim.Native.Nat.{_<_};
 ghost use lib.ListN.{getD};
 ghost use Rattle.board.specs.Paper.Limits.{jobLimit};
-ghost use Rattle.propagation.specs.Arcs.{Sound};
+ghost use Rattle.propagation.specs.Arcs.{Sound, Subset};
 ghost use Rattle.propagation.specs.Transitivity.{AllValid, Through, Forth};
 
 // The arcs from `from` to the jobs after `through`. Gives the jobs to which they are new.
@@ -30,39 +32,44 @@ fn join(
     missing
 }
 
-// The arcs from each of `sources`, the jobs before `through`, to each after it. Gives the jobs at the ends of those that are new.
+// The arcs from each of `sources`, jobs before `through`, to each after it. Gives the ends of those that are new.
 fn join_through(
     before: &mut [u64; Board::JOBS],
     after: &mut [u64; Board::JOBS],
     sources: u64,
     through: usize,
-) -> u64
-    requires { ⌜ (through < jobLimit) × (sources ≡ getD (now before) through 0) ⌝ }
+) -> Ends
+    requires { ⌜ (through < jobLimit) × Subset sources (getD (now before) through 0) ⌝ }
     ensures { λ r. ⌜ Sound (Through through) (now (before .entry)) (now (after .entry)) (now (before .exit)) (now (after .exit)) ⌝ }
 {
-    let mut found = 0;
+    let mut found = no_ends();
     let mut left = sources;
     while left != 0 {
         let from = words::lowest(left);
         left = words::without(left, from);
         let new = join(before, after, from, through);
-        found = words::union(found, ends(from, new));
+        found = all_ends(found, ends_at(from, 0, new));
     }
     found
 }
 
-// The arcs through each of some valid jobs. Gives the jobs at the ends of those that are new.
-pub fn join_arcs(before: &mut [u64; Board::JOBS], after: &mut [u64; Board::JOBS], valid: u64) -> u64
+// The arcs through each of some valid jobs, from live ones. Gives the ends of those that are new.
+pub fn join_arcs(
+    before: &mut [u64; Board::JOBS],
+    after: &mut [u64; Board::JOBS],
+    valid: u64,
+    live: u64,
+) -> Ends
     ensures { λ r. ⌜ Sound (AllValid valid) (now (before .entry)) (now (after .entry)) (now (before .exit)) (now (after .exit)) ⌝ }
 {
-    let mut found = 0;
+    let mut found = no_ends();
     let mut left = valid;
     while left != 0 {
         let through = words::lowest(left);
         left = words::without(left, through);
-        let sources = before[through];
+        let sources = words::intersection(before[through], live);
         let new = join_through(before, after, sources, through);
-        found = words::union(found, new);
+        found = all_ends(found, new);
     }
     found
 }

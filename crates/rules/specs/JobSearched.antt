@@ -43,9 +43,14 @@ pub record SideRead (b : Board) (s : Side) (times lengths : List ℤ) (beyond : 
   pub is-beyond : beyond ≡ wordsOf b s
   pub is-valid : (x : ℕ) → bit valids x ≡ valid (view b) x
 
-abbrev pub SideSearched : Side → ℕ → List ℤ → List ℤ → List ℕ → ℕ → Option Fact → Type 0
-SideSearched s j times lengths beyond valids o =
-    (b : Board) → SideRead b s times lengths beyond valids → Live (view b) j → Searched (view b) (Settled (view b) s j) o
+-- where another job represents job j on side s, R4 or R5 is settled at j (see `Dominance`)
+abbrev pub Represented : View → Side → ℕ → ℕ → Type 0
+Represented v s r j = r ≢ j → Settled v s j
+
+abbrev pub SideSearched : Side → ℕ → ℕ → List ℤ → List ℤ → List ℕ → ℕ → Option Fact → Type 0
+SideSearched s j r times lengths beyond valids o =
+    (b : Board) → SideRead b s times lengths beyond valids → Live (view b) j → Represented (view b) s r j
+    → Searched (view b) (Settled (view b) s j) o
 
 -- a sum of valid jobs beyond j that is above its bound is what R4 or R5 infers, and not shown yet
 pub sum-infers : (b : Board) → Within b → (s : Side) (j w : ℕ) → Live (view b) j
@@ -68,7 +73,7 @@ beyond-bit b h early j k = retested (h .twice k j) (holds (view b .arc k j))
 beyond-bit b h late j k = holds (view b .arc j k)
 
 module _ (b : Board) (h : Within b) (valids : ℕ) (is-valid : (x : ℕ) → bit valids x ≡ valid (view b) x) where
-  pushing-bit : (s : Side) (j k : ℕ) → Decides (bit (pushing (wordsOf b s) valids j) k) (Valid (view b) k × Beyond (view b) s k j)
+  pub pushing-bit : (s : Side) (j k : ℕ) → Decides (bit (pushing (wordsOf b s) valids j) k) (Valid (view b) k × Beyond (view b) s k j)
   pushing-bit s j k =
       retested (bit-intersection valids (getD (wordsOf b s) j 0) k) (retested (is-valid k) (valid-is (view b) k) and beyond-bit b h s j k)
 
@@ -104,9 +109,9 @@ module _ (b : Board) (h : Within b) (valids : ℕ) (is-valid : (x : ℕ) → bit
   side-says s j live none (inr l) = inr (last-ends s j l)
   side-says s j live (some z) (p, above) = sum-infers b h s j _ live (λ k e. pushing-bit s j k .yes e) z p above
 
-pub side-searched : {s : Side} {j : ℕ} {times lengths : List ℤ} {beyond : List ℕ} {valids : ℕ} (o : Option ℤ)
-    → BoundBeyond s times lengths beyond valids j o → SideSearched s j times lengths beyond valids (told s j o)
-side-searched {s} {j} {valids = valids} o g b h live =
+pub side-searched : {s : Side} {j r : ℕ} {times lengths : List ℤ} {beyond : List ℕ} {valids : ℕ} (o : Option ℤ)
+    → BoundBeyond s times lengths beyond valids j o → SideSearched s j r times lengths beyond valids (told s j o)
+side-searched {s} {j} {valids = valids} o g b h live _ =
     side-says b (h .within) valids (h .is-valid) s j live o (rw (h .is-times, h .is-lengths, h .is-beyond) at g)
 
 -- ---- a job
@@ -126,9 +131,10 @@ pub record JobRead (b : Board) (earliest latest lengths : List ℤ) (before afte
   pub is-after : after ≡ b .after
   pub is-valid : (x : ℕ) → bit valids x ≡ valid (view b) x
 
-abbrev pub JobSearched : ℕ → List ℤ → List ℤ → List ℤ → List ℕ → List ℕ → ℕ → Option Fact → Type 0
-JobSearched i earliest latest lengths before after valids o =
-    (b : Board) → JobRead b earliest latest lengths before after valids → Live (view b) i → Searched (view b) (JobSettled (view b) i) o
+abbrev pub JobSearched : ℕ → ℕ → ℕ → List ℤ → List ℤ → List ℤ → List ℕ → List ℕ → ℕ → Option Fact → Type 0
+JobSearched i p q earliest latest lengths before after valids o =
+    (b : Board) → JobRead b earliest latest lengths before after valids → Live (view b) i
+    → Represented (view b) early p i → Represented (view b) late q i → Searched (view b) (JobSettled (view b) i) o
 
 module _ {b : Board} {earliest latest lengths : List ℤ} {before after : List ℕ} {valids : ℕ} (h : JobRead b earliest latest lengths before after valids) where
   pub read-early : SideRead b early earliest lengths before valids

@@ -4,4 +4,5 @@ pub mod Values
 pub mod BoundBeyond
 pub mod Settled
 pub mod JobSearched
+pub mod Dominance
 pub mod PairSearched

@@ -12,13 +12,15 @@ ghost use mathlib.Core.Path.{_≡_};
 ghost use mathlib.Core.Bool.{true};
 ghost use mathlib.Core.Logic.{_≢_};
 ghost use Prim.Native.Nat.{_<_};
+ghost use lib.Signed.{ltZ};
 ghost use Rattle.words.specs.Bit.{bit};
 ghost use Rattle.board.specs.Paper.Limits.{jobLimit};
-ghost use Rattle.board.specs.Paper.Values.{sideOf};
+ghost use Rattle.board.specs.Paper.Values.{sideOf, turned};
 ghost use Rattle.energy.specs.Energy.{boundOf, Times, Lengths};
 ghost use Rattle.rules.specs.Values.{inferredOf};
 ghost use Rattle.rules.specs.BoundBeyond.{Apart, Says, BoundBeyond};
 ghost use Rattle.rules.specs.JobSearched.{SideSearched, JobSearched};
+ghost use Rattle.rules.specs.Dominance.{Dominated, Represents};
 
 // A last job of the set: one with none of the others on its opposite side. Where each has one, as on a cycle, any job will do.
 pub fn last(set: u64, opposite: &[u64; Board::JOBS]) -> usize
@@ -45,7 +47,7 @@ fn standing_apart(set: u64, k: usize, word: u64) -> u64
 }
 
 // The bound that a set of jobs, all beyond `job` on one side, leaves to it, where it is above its own. Most of them lie beyond a last
-// one, whose bound has room for them already: where none stands apart it alone decides, and where few do they seldom push the job.
+// one, whose bound has room for them already: where none stands apart it alone decides, and where some do they seldom push the job.
 fn bound_of<'a>(
     side: Side,
     job: usize,
@@ -63,7 +65,7 @@ fn bound_of<'a>(
     if apart == 0 {
         return single_bound(side, times, lengths, k, times[job]);
     }
-    if ends_by(side, times, lengths, k, apart, times[job]) {
+    if apart != words::without(set, k) && ends_by(side, times, lengths, k, apart, times[job]) {
         return EnergyBound::Unbounded;
     }
     energy_bound(side, times, lengths, set, times[job])
@@ -90,10 +92,59 @@ pub fn bound_beyond<'a>(
     bound_of(side, job, set, times, lengths, beyond, opposite)
 }
 
-// What the valid jobs on one side of a job infer of its window.
+// Is a time, as a bound on one side, below another?
+fn is_lower(side: Side, time: i32, other: i32) -> bool
+    ensures { λ r. ⌜ r ≡ ltZ (turned (sideOf side) time) (turned (sideOf side) other) ⌝ }
+{
+    match side {
+        Side::Early => time < other,
+        Side::Late => other < time,
+    }
+}
+
+// Dominance between two jobs on one side: do the jobs of the set, those beyond the first, lie in the word of those beyond the second, and
+// is the first one's time no lower? Then a sum above its bound is one of the second's, and above that bound too.
+fn is_dominated(side: Side, set: u64, word: u64, time: i32, other: i32) -> bool
+    ensures { λ r. ⌜ (r ≡ true → Dominated (sideOf side) set word time other) ⌝ }
+{
+    if words::difference(set, word) != 0 {
+        return false;
+    }
+    !is_lower(side, time, other)
+}
+
+// The job whose sums on one side serve for those of `job`: `former`, where it is done and dominates it, or else `job` itself. Where
+// no valid jobs lie beyond `job` there are no sums, and `former` is kept for the jobs to come.
+pub fn representative<'a>(
+    side: Side,
+    job: usize,
+    former: usize,
+    done: u64,
+    times: &'a [i32; Board::JOBS],
+    beyond: &'a [u64; Board::JOBS],
+    valid: u64,
+) -> usize
+    requires { ⌜ (job < jobLimit) × (former < jobLimit) × Times (now times) ⌝ }
+    ensures { λ r. ⌜ Represents (sideOf side) (now (times .entry)) (now (beyond .entry)) valid done job r ⌝ }
+{
+    let set = words::intersection(valid, beyond[job]);
+    if set == 0 {
+        return former;
+    }
+    if !words::has(done, former) {
+        return job;
+    }
+    if is_dominated(side, set, beyond[former], times[job], times[former]) {
+        return former;
+    }
+    job
+}
+
+// What the valid jobs on one side of a job infer of its window. Where another job represents it there, nothing is left to infer.
 fn at_side<'a>(
     side: Side,
     job: usize,
+    representative: usize,
     times: &'a [i32; Board::JOBS],
     lengths: &'a [i32; Board::JOBS],
     beyond: &'a [u64; Board::JOBS],
@@ -101,8 +152,11 @@ fn at_side<'a>(
     valid: u64,
 ) -> Found
     requires { ⌜ (job < jobLimit) × Times (now times) × Lengths (now lengths) ⌝ }
-    ensures { λ r. ⌜ SideSearched (sideOf side) job (now (times .entry)) (now (lengths .entry)) (now (beyond .entry)) valid (inferredOf r) ⌝ }
+    ensures { λ r. ⌜ SideSearched (sideOf side) job representative (now (times .entry)) (now (lengths .entry)) (now (beyond .entry)) valid (inferredOf r) ⌝ }
 {
+    if representative != job {
+        return Found::Nothing;
+    }
     let bound = bound_beyond(side, job, times, lengths, beyond, opposite, valid);
     let EnergyBound::At(time) = bound else {
         return Found::Nothing;
@@ -110,9 +164,11 @@ fn at_side<'a>(
     Found::Inferred(Fact::Bound { side, job, time })
 }
 
-// What R6, R4 and R5 infer of job i, with the words of the arcs before and after all jobs.
+// What R6, R4 and R5 infer of job i, with its representatives on either side and the words of the arcs before and after all jobs.
 pub fn at_job<'a>(
     i: usize,
+    early: usize,
+    late: usize,
     earliest: &'a [i32; Board::JOBS],
     latest: &'a [i32; Board::JOBS],
     lengths: &'a [i32; Board::JOBS],
@@ -121,7 +177,7 @@ pub fn at_job<'a>(
     valid: u64,
 ) -> Found
     requires { ⌜ (i < jobLimit) × Times (now earliest) × Times (now latest) × Lengths (now lengths) ⌝ }
-    ensures { λ r. ⌜ JobSearched i (now (earliest .entry)) (now (latest .entry)) (now (lengths .entry)) (now (before .entry)) (now (after .entry)) valid (inferredOf r) ⌝ }
+    ensures { λ r. ⌜ JobSearched i early late (now (earliest .entry)) (now (latest .entry)) (now (lengths .entry)) (now (before .entry)) (now (after .entry)) valid (inferredOf r) ⌝ }
 {
     let window = Window {
         earliest: earliest[i],
@@ -130,9 +186,18 @@ pub fn at_job<'a>(
     if !window.holds(lengths[i]) {
         return Found::Inferred(Fact::Invalid { job: i });
     }
-    let raised = at_side(Side::Early, i, earliest, lengths, before, after, valid);
+    let raised = at_side(
+        Side::Early,
+        i,
+        early,
+        earliest,
+        lengths,
+        before,
+        after,
+        valid,
+    );
     if let Found::Inferred(fact) = raised {
         return Found::Inferred(fact);
     }
-    at_side(Side::Late, i, latest, lengths, after, before, valid)
+    at_side(Side::Late, i, late, latest, lengths, after, before, valid)
 }

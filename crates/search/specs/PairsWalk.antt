@@ -1,26 +1,29 @@
 -- The walks over the rows of the pairs and over the jobs alone: the rows that are left, and the jobs that are left. All others have been
 -- searched, and nothing is left to infer there.
-use mathlib.Core.Path.{_≡_, ap}
+use mathlib.Core.Path.{_≡_, ap, _∙_}
 use mathlib.Core.List.{List}
 use mathlib.Core.Logic.{_≢_}
+use mathlib.Core.Bool.{true}
 use mathlib.Core.Option.{Option, none, some}
 use Prim.Native.Nat.{ℕ, _<_, _^_}
 use lib.IntN.{ℤ, pos, _+ℤ_}
 use lib.ListN.{getD}
-use Rattle.words.specs.Bit.{bit}
+use Rattle.words.specs.Bit.{bit, difference}
+use Rattle.words.specs.BitLaws.{bit-difference}
 use Rattle.words.specs.Walk.{Left}
-use Rattle.minutes.specs.Bools.{refuted}
+use Rattle.minutes.specs.Bools.{is-false, refuted}
 use Rattle.minutes.specs.Time.{Moderate}
 use Rattle.board.specs.declared.Board.{Board}
-use Rattle.board.specs.Paper.View.{View, Live, view}
+use Rattle.board.specs.Paper.View.{View, Live, Side, view}
 use Rattle.board.specs.Paper.Facts.{Fact}
 use Rattle.board.specs.Paper.Limits.{jobLimit, Within}
 use Rattle.board.specs.Paper.Tests.{live}
-use Rattle.board.specs.Tests.Decides.{Decides, retested, live-is}
+use Rattle.board.specs.Tests.Decides.{Decides, retested, _and_, negated, holds, live-is}
 use Rattle.board.specs.Inference.Infers.{Obeys}
 use Rattle.rules.specs.JobSearched.{JobRead, JobSettled}
 use Rattle.rules.specs.JobSearched as jobs
 use Rattle.rules.specs.Searched.{Searched, PairObeys}
+use Rattle.rules.specs.Settled.{Settled}
 use Rattle.search.specs.declared.Pair.{Pair}
 use Rattle.search.specs.declared.Pair.the-variants.{None, At}
 use Rattle.search.specs.Rows.{RowRead}
@@ -54,10 +57,6 @@ pub record EarliestEnd (earliest lengths : List ℤ) (i : ℕ) (end : ℤ) : Typ
   pub is : end ≡ getD earliest i (pos 0) +ℤ getD lengths i (pos 0)
   pub moderate : Moderate end
 
--- where nothing is found, nothing is said
-abbrev pub Unsaid : View → Type 0
-Unsaid v = Unit
-
 -- what is said where nothing is found, in other words
 pub searched-with : (v : View) (P Q : Type 0) → (P → Q) → (o : Option Fact) → Searched v P o → Searched v Q o
 searched-with v P Q f none h = f h
@@ -74,18 +73,27 @@ JobsSettled v = (i : ℕ) → Live v i → JobSettled v i
 abbrev pub JobsLeft : View → ℕ → Type 0
 JobsLeft v = Left jobLimit (Live v) (JobSettled v)
 
--- at first all live jobs are left
-pub all-left : {b : Board} {lives valids : ℕ} {earliest latest lengths : List ℤ} {before after : List ℕ}
-    → Read b lives valids earliest latest lengths before after → lives < 2 ^ jobLimit → (Q : ℕ → Type 0) → Left jobLimit (Live (view b)) Q lives
-all-left {b} {lives} h width Q =
-    record {
-      width = width;
-      member = λ x e. live-bit x .yes e;
-      done = λ x l e. absurd (refuted e (live-bit x .show l));
-    }
-  where
-    live-bit : (x : ℕ) → Decides (bit lives x) (Live (view b) x)
-    live-bit x = retested (h .is-live x) (live-is (view b) x)
+module _ {b : Board} {lives valids : ℕ} {earliest latest lengths : List ℤ} {before after : List ℕ} (h : Read b lives valids earliest latest lengths before after)
+    (width : lives < 2 ^ jobLimit) where
+  live-bit : (x : ℕ) → Decides (bit lives x) (Live (view b) x)
+  live-bit x = retested (h .is-live x) (live-is (view b) x)
+
+  -- at first all live jobs are left
+  pub all-left : (Q : ℕ → Type 0) → Left jobLimit (Live (view b)) Q lives
+  all-left Q =
+      record {
+        width = width;
+        member = λ x e. live-bit x .yes e;
+        done = λ x l e. absurd (refuted e (live-bit x .show l));
+      }
+
+  -- the live jobs that are left no more are settled
+  pub done-settled : {left done : ℕ} → JobsLeft (view b) left → done ≡ difference jobLimit lives left
+      → (s : Side) (x : ℕ) → bit done x ≡ true → Settled (view b) s x
+  done-settled {left} {done} jobs e s x member =
+      let visited = retested (ap (λ w. bit w x) e ∙ bit-difference jobLimit lives left x width (jobs .width)) (live-bit x and negated (holds (bit left x))) in
+      let (live, out) = visited .yes member in
+      jobs .done x live (is-false (bit left x) out) .settled s
 
 -- what the row of job i reads
 pub row-read : {b : Board} {lives valids : ℕ} {earliest latest lengths : List ℤ} {before after : List ℕ}

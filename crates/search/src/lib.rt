@@ -3,21 +3,19 @@ use crate::partners::ends_late;
 use crate::partners::latest_start;
 use crate::partners::partners;
 use board::Board;
-use limits::marked::live;
-use limits::marked::marked;
+use board::facts::Side;
 use rules::Found;
 use rules::job::at_job;
+use rules::job::representative;
 use rules::pair::applies;
 use rules::pair::at_pair;
 ghost use Prim.Native.Nat.{_<_};
-ghost use Rattle.board.specs.Paper.View.{view};
-ghost use Rattle.board.specs.Paper.Limits.{Within, jobLimit};
+ghost use Rattle.board.specs.Paper.Limits.{jobLimit};
 ghost use Rattle.board.specs.Inference.Infers.{Obeys};
 ghost use Rattle.energy.specs.Energy.{Times, Lengths};
-ghost use Rattle.rules.specs.Searched.{Searched};
 ghost use Rattle.rules.specs.Values.{inferredOf};
 ghost use Rattle.search.specs.Settled.{PairsSettled};
-ghost use Rattle.search.specs.PairsWalk.{ReadSearched, EarliestEnd, PairFound, Unsaid, JobsSettled};
+ghost use Rattle.search.specs.PairsWalk.{ReadSearched, EarliestEnd, PairFound, JobsSettled};
 
 pub mod partners;
 
@@ -104,7 +102,8 @@ fn at_pairs<'a>(
     at_pair(i, k, valid, after[i], before[i], after[k], late)
 }
 
-// What R4, R5 and R6 infer, job by job.
+// What R4, R5 and R6 infer, job by job. The jobs whose sums were taken last, one for each side, serve for those that they dominate: on
+// a board in layers many jobs have the same sums.
 fn at_jobs<'a>(
     live: u64,
     valid: u64,
@@ -118,10 +117,25 @@ fn at_jobs<'a>(
     ensures { λ r. ⌜ ReadSearched JobsSettled live valid (now (earliest .entry)) (now (latest .entry)) (now (lengths .entry)) (now (before .entry)) (now (after .entry)) (inferredOf r) ⌝ }
 {
     let mut left = live;
+    let mut early = 0;
+    let mut late = 0;
     while left != 0 {
         let i = words::lowest(left);
+        let done = words::difference(live, left);
         left = words::without(left, i);
-        let single = at_job(i, earliest, latest, lengths, before, after, valid);
+        early = representative(Side::Early, i, early, done, earliest, before, valid);
+        late = representative(Side::Late, i, late, done, latest, after, valid);
+        let single = at_job(
+            i,
+            early,
+            late,
+            earliest,
+            latest,
+            lengths,
+            before,
+            after,
+            valid,
+        );
         if let Found::Inferred(fact) = single {
             return Found::Inferred(fact);
         }
@@ -129,9 +143,8 @@ fn at_jobs<'a>(
     Found::Nothing
 }
 
-// What R4, R5 and R6 infer of the least live job of a set, where it has one.
-fn at_first<'a>(
-    set: u64,
+// The pairs come first: the sums of R4 and R5 cost the most, so they wait until no arc is left to infer.
+pub fn find<'a>(
     live: u64,
     valid: u64,
     earliest: &'a [i32; Board::JOBS],
@@ -141,63 +154,11 @@ fn at_first<'a>(
     after: &'a [u64; Board::JOBS],
 ) -> Found
     requires { ⌜ Times (now earliest) × Times (now latest) × Lengths (now lengths) ⌝ }
-    ensures { λ r. ⌜ ReadSearched Unsaid live valid (now (earliest .entry)) (now (latest .entry)) (now (lengths .entry)) (now (before .entry)) (now (after .entry)) (inferredOf r) ⌝ }
+    ensures { λ r. ⌜ ReadSearched Obeys live valid (now (earliest .entry)) (now (latest .entry)) (now (lengths .entry)) (now (before .entry)) (now (after .entry)) (inferredOf r) ⌝ }
 {
-    let first = words::intersection(set, live);
-    if first == 0 {
-        return Found::Nothing;
-    }
-    at_job(
-        words::lowest(first),
-        earliest,
-        latest,
-        lengths,
-        before,
-        after,
-        valid,
-    )
-}
-
-// A job of `stuck` comes first: who found that it doesn't fit its window hands it on, and a mark has to change. Then the pairs: the
-// sums of R4 and R5 cost the most, so they wait until no arc is left to infer.
-pub fn find(b: Board, stuck: u64) -> Found
-    requires { ⌜ Within b ⌝ }
-    ensures { λ r. ⌜ Searched (view b) (Obeys (view b)) (inferredOf r) ⌝ }
-{
-    let live = live(b.jobs, &b.marks);
-    let valid = marked(b.jobs, &b.marks, Board::VALID);
-    let first = at_first(
-        stuck,
-        live,
-        valid,
-        &b.earliest,
-        &b.latest,
-        &b.lengths,
-        &b.before,
-        &b.after,
-    );
-    if let Found::Inferred(fact) = first {
-        return Found::Inferred(fact);
-    }
-    let pairs = at_pairs(
-        live,
-        valid,
-        &b.earliest,
-        &b.latest,
-        &b.lengths,
-        &b.before,
-        &b.after,
-    );
+    let pairs = at_pairs(live, valid, earliest, latest, lengths, before, after);
     if let Found::Inferred(fact) = pairs {
         return Found::Inferred(fact);
     }
-    at_jobs(
-        live,
-        valid,
-        &b.earliest,
-        &b.latest,
-        &b.lengths,
-        &b.before,
-        &b.after,
-    )
+    at_jobs(live, valid, earliest, latest, lengths, before, after)
 }

@@ -1,10 +1,6 @@
 -- Which facts an update by the code can take.
 use Rattle.minutes.specs.Time.{Moderate}
-use Rattle.board.specs.declared.Board.{Board}
 use Rattle.board.specs.declared.facts.Fact as Facts
-use Rattle.board.specs.Paper.Limits.{Within}
-use Rattle.board.specs.Paper.Facts.{Known}
-use Rattle.board.specs.Paper.Values.{factOf}
 
 -- a bound's time is far from the ends of an i32
 abbrev pub Timely : Facts.Fact → Type 0
@@ -12,9 +8,3 @@ Timely (Facts.the-variants.Arc i k) = Unit
 Timely (Facts.the-variants.Bound s j t) = Moderate t
 Timely (Facts.the-variants.Valid j) = Unit
 Timely (Facts.the-variants.Invalid j) = Unit
-
--- a fact about jobs of a board within its limits
-pub record Applicable (b : Board) (f : Facts.Fact) : Type 0 where
-  pub within : Within b
-  pub known : Known (b .jobs) (factOf f)
-  pub timely : Timely f

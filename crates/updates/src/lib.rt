@@ -1,203 +1,288 @@
 // Updates: the least board above this one where one more fact holds, or none where a mark would have to change. Entries and
-// rules go through the same ones.
+// rules go through the same ones. A board's arrays are altered in place, since to hand on a board is to copy it.
 use board::Board;
 use board::facts::Fact;
 use board::facts::Side;
 use windows::Window;
 ghost use mathlib.Core.Path.{_≡_};
+ghost use mathlib.Core.Bool.{true};
 ghost use mathlib.Core.Option.{some};
-ghost use Prim.Native.Nat.{_<_};
+ghost use Prim.Native.Nat.{_<_, _≤_};
+ghost use lib.IntN.{pos};
+ghost use lib.ListN.{getD, set};
 ghost use Rattle.minutes.specs.Time.{Moderate};
+ghost use Rattle.words.specs.Bit.{with};
+ghost use Rattle.board.specs.declared.Board as boards;
 ghost use Rattle.board.specs.Paper.Limits.{jobLimit, Within};
-ghost use Rattle.board.specs.Paper.View.{view, rowOf};
-ghost use Rattle.board.specs.Paper.Facts.{is-arc, is-bound, is-valid};
+ghost use Rattle.board.specs.Paper.View.{rowOf};
+ghost use Rattle.board.specs.Paper.Facts.{is-arc, is-bound, is-valid, Known};
 ghost use Rattle.board.specs.Paper.Values.{sideOf, turned, factOf};
-ghost use Rattle.updates.specs.Outcome.{outcomeOf};
-ghost use Rattle.board.specs.Paper.Tests.{live};
 ghost use Rattle.board.specs.Update.Updates as updates;
-ghost use Rattle.windows.specs.Windows.{windowOf, moved};
-ghost use Rattle.updates.specs.Applicable.{Applicable};
-
-// The board after a step, or a contradiction, where `possible` is false and the board of no account.
-pub struct Outcome {
-    pub possible: bool,
-    pub board: Board,
-}
-
-// The words without job `job`, and none in its own.
-fn isolate(words: [u64; Board::JOBS], job: usize) -> [u64; Board::JOBS]
-    requires { ⌜ job < jobLimit ⌝ }
-    ensures { λ r. ⌜ r ≡ updates.isolate words job ⌝ }
-{
-    let mut kept = words;
-    for k in 0..Board::JOBS {
-        kept[k] = words::without(kept[k], job);
-    }
-    kept[job] = 0;
-    kept
-}
-
-// Is the job one that may still take place?
-pub fn is_live(b: Board, job: usize) -> bool
-    requires { ⌜ job < jobLimit ⌝ }
-    ensures { λ r. ⌜ r ≡ live (view b) job ⌝ }
-{
-    job < b.jobs && b.marks[job] != Board::INVALID
-}
+ghost use Rattle.board.specs.Update.Strike as struck;
+ghost use Rattle.board.specs.Update.Shown.{arcShown, boundShown};
+ghost use Rattle.board.specs.Update.Filled.{filled, possibly, ArraysWithin, Alters};
+ghost use Rattle.updates.specs.Applicable.{Timely};
+ghost use Rattle.updates.specs.Tightened.{Tightens};
 
 // An arc, in both words that keep it.
-fn link(b: Board, from: usize, to: usize) -> Board
+pub fn link(before: &mut [u64; Board::JOBS], after: &mut [u64; Board::JOBS], from: usize, to: usize)
     requires { ⌜ (from < jobLimit) × (to < jobLimit) ⌝ }
-    ensures { λ r. ⌜ r ≡ updates.link b from to ⌝ }
+    ensures { λ r. ⌜ now (before .exit) ≡ set (now (before .entry)) to (with (getD (now (before .entry)) to 0) from) ⌝ }
+    ensures { λ r. ⌜ now (after .exit) ≡ set (now (after .entry)) from (with (getD (now (after .entry)) from 0) to) ⌝ }
 {
-    let mut board = b;
-    board.after[from] = words::with(board.after[from], to);
-    board.before[to] = words::with(board.before[to], from);
-    board
+    before[to] = words::with(before[to], from);
+    after[from] = words::with(after[from], to);
+}
+
+// Does the arc stand, or is one of its jobs invalid?
+fn is_joined<'a>(
+    marks: &'a [u8; Board::JOBS],
+    after: &'a [u64; Board::JOBS],
+    from: usize,
+    to: usize,
+) -> bool
+    requires { ⌜ (from < jobLimit) × (to < jobLimit) ⌝ }
+    ensures { λ r. ⌜ ((b : boards.Board) → r ≡ arcShown (filled b (b .lengths) (b .earliest) (b .latest) (now (marks .entry)) (now (after .entry)) (b .before)) from to) ⌝ }
+{
+    if marks[from] == Board::INVALID {
+        return true;
+    }
+    if marks[to] == Board::INVALID {
+        return true;
+    }
+    words::has(after[from], to)
 }
 
 // An arc between jobs that may both take place; other arcs count as shown.
-fn join(b: Board, from: usize, to: usize) -> Board
+fn join(
+    marks: &[u8; Board::JOBS],
+    after: &mut [u64; Board::JOBS],
+    before: &mut [u64; Board::JOBS],
+    from: usize,
+    to: usize,
+)
     requires { ⌜ (from < jobLimit) × (to < jobLimit) ⌝ }
-    ensures { λ r. ⌜ some r ≡ updates.update b (is-arc from to) ⌝ }
+    ensures { λ r. ⌜ ((b : boards.Board) → from < b .jobs → to < b .jobs → let c = filled b (b .lengths) (b .earliest) (b .latest) (now (marks .entry)) (now (after .entry)) (now (before .entry)) in Within c → updates.update c (is-arc from to) ≡ some (filled b (b .lengths) (b .earliest) (b .latest) (now (marks .entry)) (now (after .exit)) (now (before .exit)))) ⌝ }
 {
-    if is_live(b, from) && is_live(b, to) {
-        return link(b, from, to);
+    if is_joined(marks, after, from, to) {
+        return;
     }
-    b
+    link(before, after, from, to);
 }
 
-// "An invalid job holds length 0, E 0, D 0 and no arcs"
-fn invalidate(b: Board, job: usize) -> Board
-    requires { ⌜ job < jobLimit ⌝ }
-    ensures { λ r. ⌜ r ≡ updates.invalidate b job ⌝ }
+// What becomes of job k where a set is struck out: it loses all it has where it is of the set, else its arcs to the set's jobs.
+fn strike_at(
+    lengths: &mut [i32; Board::JOBS],
+    earliest: &mut [i32; Board::JOBS],
+    latest: &mut [i32; Board::JOBS],
+    marks: &mut [u8; Board::JOBS],
+    after: &mut [u64; Board::JOBS],
+    before: &mut [u64; Board::JOBS],
+    set: u64,
+    k: usize,
+)
+    requires { ⌜ k < jobLimit ⌝ }
+    ensures { λ r. ⌜ ((b : boards.Board) → filled b (now (lengths .exit)) (now (earliest .exit)) (now (latest .exit)) (now (marks .exit)) (now (after .exit)) (now (before .exit)) ≡ struck.strikeAt (filled b (now (lengths .entry)) (now (earliest .entry)) (now (latest .entry)) (now (marks .entry)) (now (after .entry)) (now (before .entry))) set k) ⌝ }
 {
-    let mut board = b;
-    board.lengths[job] = 0;
-    board.earliest[job] = 0;
-    board.latest[job] = 0;
-    board.marks[job] = Board::INVALID;
-    let after = b.after;
-    let before = b.before;
-    board.after = isolate(after, job);
-    board.before = isolate(before, job);
-    board
+    if words::has(set, k) {
+        lengths[k] = 0;
+        earliest[k] = 0;
+        latest[k] = 0;
+        marks[k] = Board::INVALID;
+        after[k] = 0;
+        before[k] = 0;
+        return;
+    }
+    after[k] = words::difference(after[k], set);
+    before[k] = words::difference(before[k], set);
+}
+
+// "An invalid job holds length 0, E 0, D 0 and no arcs": all jobs of a set become invalid at once.
+pub fn strike(
+    jobs: usize,
+    lengths: &mut [i32; Board::JOBS],
+    earliest: &mut [i32; Board::JOBS],
+    latest: &mut [i32; Board::JOBS],
+    marks: &mut [u8; Board::JOBS],
+    after: &mut [u64; Board::JOBS],
+    before: &mut [u64; Board::JOBS],
+    set: u64,
+)
+    requires { ⌜ jobs ≤ jobLimit ⌝ }
+    ensures { λ r. ⌜ ((b : boards.Board) → b .jobs ≡ jobs → filled b (now (lengths .exit)) (now (earliest .exit)) (now (latest .exit)) (now (marks .exit)) (now (after .exit)) (now (before .exit)) ≡ struck.strike (filled b (now (lengths .entry)) (now (earliest .entry)) (now (latest .entry)) (now (marks .entry)) (now (after .entry)) (now (before .entry))) set) ⌝ }
+{
+    for k in 0..jobs {
+        strike_at(lengths, earliest, latest, marks, after, before, set, k);
+    }
 }
 
 // "makes an undecided job invalid and a valid one a contradiction"
-fn exclude(b: Board, job: usize) -> Outcome
-    requires { ⌜ job < jobLimit ⌝ }
-    ensures { λ r. ⌜ outcomeOf r ≡ updates.exclude b job ⌝ }
+fn exclude(
+    jobs: usize,
+    lengths: &mut [i32; Board::JOBS],
+    earliest: &mut [i32; Board::JOBS],
+    latest: &mut [i32; Board::JOBS],
+    marks: &mut [u8; Board::JOBS],
+    after: &mut [u64; Board::JOBS],
+    before: &mut [u64; Board::JOBS],
+    job: usize,
+) -> bool
+    requires { ⌜ (jobs ≤ jobLimit) × (job < jobs) ⌝ }
+    ensures { λ r. ⌜ Alters jobs (λ c. updates.exclude c job) (now (lengths .entry)) (now (earliest .entry)) (now (latest .entry)) (now (marks .entry)) (now (after .entry)) (now (before .entry)) r (now (lengths .exit)) (now (earliest .exit)) (now (latest .exit)) (now (marks .exit)) (now (after .exit)) (now (before .exit)) ⌝ }
 {
-    let mark = b.marks[job];
+    let mark = marks[job];
     if mark == Board::VALID {
-        return Outcome {
-            possible: false,
-            board: b,
-        };
+        return false;
     }
     if mark == Board::INVALID {
-        return Outcome {
-            possible: true,
-            board: b,
-        };
+        return true;
     }
-    Outcome {
-        possible: true,
-        board: invalidate(b, job),
-    }
+    let set = words::with(0, job);
+    strike(jobs, lengths, earliest, latest, marks, after, before, set);
+    true
 }
 
 // "Only an entry makes a job valid."
-fn validate(b: Board, job: usize) -> Outcome
+fn validate(marks: &mut [u8; Board::JOBS], job: usize) -> bool
     requires { ⌜ job < jobLimit ⌝ }
-    ensures { λ r. ⌜ outcomeOf r ≡ updates.update b (is-valid job) ⌝ }
+    ensures { λ r. ⌜ ((b : boards.Board) → updates.update (filled b (b .lengths) (b .earliest) (b .latest) (now (marks .entry)) (b .after) (b .before)) (is-valid job) ≡ possibly r (filled b (b .lengths) (b .earliest) (b .latest) (now (marks .exit)) (b .after) (b .before))) ⌝ }
 {
-    if b.marks[job] == Board::INVALID {
-        return Outcome {
-            possible: false,
-            board: b,
-        };
+    if marks[job] == Board::INVALID {
+        return false;
     }
-    let mut board = b;
-    board.marks[job] = Board::VALID;
-    Outcome {
-        possible: true,
-        board,
-    }
+    marks[job] = Board::VALID;
+    true
 }
 
-// A smaller window. R6 follows at once.
-fn tighten(b: Board, job: usize, window: Window) -> Outcome
-    requires { ⌜ (job < jobLimit) × Moderate (window .earliest) × Moderate (rowOf b job .length) ⌝ }
-    ensures { λ r. ⌜ outcomeOf r ≡ updates.tighten b job (moved window (rowOf b job)) ⌝ }
-{
-    if window.holds(b.lengths[job]) {
-        let earliest = window.earliest;
-        let latest = window.latest;
-        let mut board = b;
-        board.earliest[job] = earliest;
-        board.latest[job] = latest;
-        return Outcome {
-            possible: true,
-            board,
-        };
-    }
-    exclude(b, job)
-}
-
-// The window of a job.
-fn window_of(b: Board, job: usize) -> Window
+// Does a job's window show the bound already, or is the job invalid?
+fn is_bounded<'a>(
+    earliest: &'a [i32; Board::JOBS],
+    latest: &'a [i32; Board::JOBS],
+    marks: &'a [u8; Board::JOBS],
+    side: Side,
+    job: usize,
+    time: i32,
+) -> bool
     requires { ⌜ job < jobLimit ⌝ }
-    ensures { λ r. ⌜ r ≡ windowOf (rowOf b job) ⌝ }
+    ensures { λ r. ⌜ ((b : boards.Board) → r ≡ boundShown (sideOf side) (turned (sideOf side) time) (rowOf (filled b (b .lengths) (now (earliest .entry)) (now (latest .entry)) (now (marks .entry)) (b .after) (b .before)) job)) ⌝ }
 {
-    Window {
-        earliest: b.earliest[job],
-        latest: b.latest[job],
+    if marks[job] == Board::INVALID {
+        return true;
     }
+    let window = Window {
+        earliest: earliest[job],
+        latest: latest[job],
+    };
+    !window.exceeds(side, time)
 }
 
-// A bound on one side of a window, where it says something new of a job that may still take place.
-fn bound(b: Board, side: Side, job: usize, time: i32) -> Outcome
-    requires { ⌜ (job < jobLimit) × Within b × Moderate time ⌝ }
-    ensures { λ r. ⌜ outcomeOf r ≡ updates.update b (is-bound (sideOf side) job (turned (sideOf side) time)) ⌝ }
+// The bound put on a job's window, where it says something new of a job that may still take place. False where it leaves no
+// room for the job (R6): then the window stays.
+fn tighten<'a>(
+    lengths: &'a [i32; Board::JOBS],
+    earliest: &mut [i32; Board::JOBS],
+    latest: &mut [i32; Board::JOBS],
+    marks: &'a [u8; Board::JOBS],
+    side: Side,
+    job: usize,
+    time: i32,
+) -> bool
+    requires { ⌜ (job < jobLimit) × Moderate time × Moderate (getD (now earliest) job (pos 0)) × Moderate (getD (now lengths) job (pos 0)) ⌝ }
+    ensures { λ r. ⌜ ((b : boards.Board) → job < b .jobs → Tightens (sideOf side) job (turned (sideOf side) time) (filled b (now (lengths .entry)) (now (earliest .entry)) (now (latest .entry)) (now (marks .entry)) (b .after) (b .before)) r (filled b (now (lengths .entry)) (now (earliest .exit)) (now (latest .exit)) (now (marks .entry)) (b .after) (b .before))) ⌝ }
 {
-    let window = window_of(b, job);
-    if is_live(b, job) && window.exceeds(side, time) {
-        return tighten(b, job, window.bounded(side, time));
+    if is_bounded(earliest, latest, marks, side, job, time) {
+        return true;
     }
-    Outcome {
-        possible: true,
-        board: b,
+    let window = Window {
+        earliest: earliest[job],
+        latest: latest[job],
+    };
+    let smaller = window.bounded(side, time);
+    if smaller.holds(lengths[job]) {
+        let start = smaller.earliest;
+        let end = smaller.latest;
+        earliest[job] = start;
+        latest[job] = end;
+        return true;
     }
+    false
 }
 
-pub fn update(b: Board, fact: Fact) -> Outcome
-    requires { ⌜ Applicable b fact ⌝ }
-    ensures { λ r. ⌜ outcomeOf r ≡ updates.update b (factOf fact) ⌝ }
+// A bound on one side of a window; a job that no longer fits its window is struck out at once.
+fn bound(
+    jobs: usize,
+    lengths: &mut [i32; Board::JOBS],
+    earliest: &mut [i32; Board::JOBS],
+    latest: &mut [i32; Board::JOBS],
+    marks: &mut [u8; Board::JOBS],
+    after: &mut [u64; Board::JOBS],
+    before: &mut [u64; Board::JOBS],
+    side: Side,
+    job: usize,
+    time: i32,
+) -> bool
+    requires { ⌜ (job < jobs) × ArraysWithin jobs (now lengths) (now earliest) (now latest) (now marks) (now after) (now before) × Moderate time ⌝ }
+    ensures { λ r. ⌜ Alters jobs (λ c. updates.update c (is-bound (sideOf side) job (turned (sideOf side) time))) (now (lengths .entry)) (now (earliest .entry)) (now (latest .entry)) (now (marks .entry)) (now (after .entry)) (now (before .entry)) r (now (lengths .exit)) (now (earliest .exit)) (now (latest .exit)) (now (marks .exit)) (now (after .exit)) (now (before .exit)) ⌝ }
+{
+    if tighten(lengths, earliest, latest, marks, side, job, time) {
+        return true;
+    }
+    exclude(jobs, lengths, earliest, latest, marks, after, before, job)
+}
+
+// The board with one more fact; or false, where a mark would have to change, and the arrays are of no account.
+pub fn update(
+    jobs: usize,
+    lengths: &mut [i32; Board::JOBS],
+    earliest: &mut [i32; Board::JOBS],
+    latest: &mut [i32; Board::JOBS],
+    marks: &mut [u8; Board::JOBS],
+    after: &mut [u64; Board::JOBS],
+    before: &mut [u64; Board::JOBS],
+    fact: Fact,
+) -> bool
+    requires { ⌜ ArraysWithin jobs (now lengths) (now earliest) (now latest) (now marks) (now after) (now before) × Known jobs (factOf fact) × Timely fact ⌝ }
+    ensures { λ r. ⌜ Alters jobs (λ c. updates.update c (factOf fact)) (now (lengths .entry)) (now (earliest .entry)) (now (latest .entry)) (now (marks .entry)) (now (after .entry)) (now (before .entry)) r (now (lengths .exit)) (now (earliest .exit)) (now (latest .exit)) (now (marks .exit)) (now (after .exit)) (now (before .exit)) ⌝ }
 {
     match fact {
-        Fact::Arc { from, to } => Outcome {
-            possible: true,
-            board: join(b, from, to),
-        },
-        Fact::Bound { side, job, time } => bound(b, side, job, time),
-        Fact::Valid { job } => validate(b, job),
-        Fact::Invalid { job } => exclude(b, job),
+        Fact::Arc { from, to } => {
+            join(marks, after, before, from, to);
+            true
+        }
+        Fact::Bound { side, job, time } => bound(
+            jobs,
+            lengths,
+            earliest,
+            latest,
+            marks,
+            after,
+            before,
+            side,
+            job,
+            time,
+        ),
+        Fact::Valid { job } => validate(marks, job),
+        Fact::Invalid { job } => {
+            exclude(jobs, lengths, earliest, latest, marks, after, before, job)
+        }
     }
 }
 
-// A job added: its row at the first place without a job.
-pub fn append(b: Board, length: i32, earliest: i32, latest: i32, mark: u8) -> Board
-    requires { ⌜ b .jobs < jobLimit ⌝ }
-    ensures { λ r. ⌜ r ≡ updates.append b (record { mark = mark; length = length; earliest = earliest; latest = latest }) ⌝ }
+// Does the board show the fact already, so that the update by it changes nothing?
+pub fn is_shown<'a>(
+    earliest: &'a [i32; Board::JOBS],
+    latest: &'a [i32; Board::JOBS],
+    marks: &'a [u8; Board::JOBS],
+    after: &'a [u64; Board::JOBS],
+    fact: Fact,
+) -> bool
+    requires { ⌜ Known jobLimit (factOf fact) ⌝ }
+    ensures { λ r. ⌜ ((b : boards.Board) → let c = filled b (b .lengths) (now (earliest .entry)) (now (latest .entry)) (now (marks .entry)) (now (after .entry)) (b .before) in Within c → r ≡ true → updates.update c (factOf fact) ≡ some c) ⌝ }
 {
-    let at = b.jobs;
-    let mut board = b;
-    board.lengths[at] = length;
-    board.earliest[at] = earliest;
-    board.latest[at] = latest;
-    board.marks[at] = mark;
-    board.jobs = at + 1;
-    board
+    match fact {
+        Fact::Arc { from, to } => is_joined(marks, after, from, to),
+        Fact::Bound { side, job, time } => is_bounded(earliest, latest, marks, side, job, time),
+        Fact::Valid { job } => marks[job] == Board::VALID,
+        Fact::Invalid { job } => marks[job] == Board::INVALID,
+    }
 }

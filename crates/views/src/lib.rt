@@ -6,10 +6,10 @@ use gate::Gate;
 use gate::index;
 use gate::job_gate;
 use gate::pair_gate;
-use updates::is_live;
 ghost use mathlib.Core.Path.{_≡_};
-ghost use mathlib.Core.Bool.{true, cond};
+ghost use mathlib.Core.Bool.{true, cond, not, _&&_};
 ghost use Prim.Native.Nat.{_+_, _<_};
+ghost use lib.Dec.{eqb, ltb};
 ghost use lib.IntN.{_-ℤ_};
 ghost use Rattle.board.specs.Paper.Limits.{Within, jobLimit};
 ghost use Rattle.board.specs.Paper.View.{rowOf};
@@ -66,12 +66,19 @@ fn shown_gap(board: Board, a: usize, b: usize) -> i32
     minutes::gap(board.earliest[b], board.latest[a])
 }
 
+// Is the job one that may still take place?
+fn is_live(jobs: usize, mark: u8, job: usize) -> bool
+    ensures { λ r. ⌜ r ≡ (ltb job jobs && not (eqb mark 2)) ⌝ }
+{
+    job < jobs && mark != Board::INVALID
+}
+
 // "If either is invalid, both numbers are 0."
 fn shown_pair(board: Board, a: usize, b: usize) -> PairAnswer
     requires { ⌜ Within board × (a < jobLimit) × (b < jobLimit) ⌝ }
     ensures { λ r. ⌜ r ≡ looking.pairShown board a b ⌝ }
 {
-    if is_live(board, a) && is_live(board, b) {
+    if is_live(board.jobs, board.marks[a], a) && is_live(board.jobs, board.marks[b], b) {
         return PairAnswer::Pair {
             arcs: shown_arcs(board, a, b),
             gap: shown_gap(board, a, b),

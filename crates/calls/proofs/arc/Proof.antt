@@ -1,18 +1,17 @@
 -- `calls::arc` meets its contract: an arc that its gate lets pass is one fact. Assumes nothing.
-use mathlib.Core.Path.{_≡_, sym, _∙_}
+use mathlib.Core.Path.{_≡_, refl, sym, _∙_}
 use mathlib.Core.Option.{none}
 use borrow.Author.Needs.{needs}
 use mir.ValLaws.{toZ-ofZ}
-use Rattle.updates.specs.Outcome.{outcomeOf}
-use Rattle.board.specs.Paper.Facts.{is-arc}
-use Rattle.closure.specs.Checked.{passes-within}
-use Rattle.closure.specs.Due.{known-more}
+use Rattle.board.specs.declared.facts.Fact.the-variants as Facts
 use Rattle.entries.specs.Paper.Entry.{arc, other}
 use Rattle.entries.specs.Paper.Gate.{checks, gate}
 use Rattle.entries.specs.Paper.Enter.{raw}
 use Rattle.gate.specs.Values.{refusalOf}
 use Rattle.entries.specs.Numbers.{PairNumbers, pair-numbers}
-use Rattle.calls.specs.Called.{refused-enter, raw-within, concluded-enter, one-fact}
+use Rattle.statements.specs.declared.stated.Stated.the-variants.{One}
+use Rattle.statements.specs.Stated.{rawOf}
+use Rattle.calls.specs.Called.{refused-enter, raw-within, concluded-enter}
 use Rattle.calls.proofs.arc.Statement.{statement}
 use Rattle.calls.proofs.arc.Tie as tie
 
@@ -34,56 +33,24 @@ numbers : (c : tie.After-enum-told)
 numbers c = pair-numbers _ _ _ (sym (let-pass c))
 
 -- the board with the entry, nothing inferred yet
-shows : (c : tie.After-update)
-    → let a = c .before .before .before .before .before .before .args in
-    outcomeOf (c .update .result) ≡ raw (a .board) (other (arc (a .from) (a .to)))
+shows : (c : tie.After-index2)
+    → let a = c .before .before .before .before .before .args in
+    rawOf (a .board) (One (Facts.Arc (c .before .index .result) (c .index2 .result))) ≡ raw (a .board) (other (arc (a .from) (a .to)))
 unfolding raw
 shows c =
-    let start = c .before .before .before .before .before .before in
-    let from = simp (toZ-ofZ, start .fits .from) at (c .before .before .index .ensures) in
-    let to = simp (toZ-ofZ, start .fits .to) at (c .before .index2 .ensures) in
-    rw (← from, ← to) (c .update .ensures ∙ one-fact _ _)
-
-pair-gate-requires : tie.Need-pair-gate-requires
-pair-gate-requires c κs = search needs
-
-enum-known-refusal : tie.Need-enum-known-refusal
-enum-known-refusal c = search needs
-
-refused-requires : tie.Need-refused-requires
-refused-requires c κs = search needs
-
-enum-told : tie.Need-enum-told
-enum-told c = search needs
-
-index-requires : tie.Need-index-requires
-index-requires c κs = simp (toZ-ofZ, c .before .before .before .fits .from) (numbers c .first .low)
-
-index-requires-2 : tie.Need-index-requires-2
-index-requires-2 c κs = simp (toZ-ofZ, c .before .before .before .before .fits .to) (numbers (c .before) .second .low)
-
-update-requires : tie.Need-update-requires
-update-requires c κs =
     let start = c .before .before .before .before .before in
-    let h = numbers (c .before .before) in
     let from = simp (toZ-ofZ, start .fits .from) at (c .before .index .ensures) in
     let to = simp (toZ-ofZ, start .fits .to) at (c .index2 .ensures) in
     rw (from, to)
-    (record { within = passes-within _ (start .pre); known = (h .first .high, h .second .high, h .different); timely = tt })
 
-concerned-requires : tie.Need-concerned-requires
-concerned-requires c κs =
-    let start = c .before .before .before .before .before .before in
-    let h = numbers (c .before .before .before) in
-    let from = simp (toZ-ofZ, start .fits .from) at (c .before .before .index .ensures) in
-    let to = simp (toZ-ofZ, start .fits .to) at (c .before .index2 .ensures) in
-    rw (from, to) (known-more (passes-within _ (start .pre) .limits .jobs) (is-arc _ _) (h .first .high, h .second .high, h .different))
-
-settle-requires : tie.Need-settle-requires
-settle-requires c κs =
-    let told = c .before .before .before .before in
-    let pre = told .before .before .before .pre in
-    (pre, raw-within _ _ pre (let-pass told) _ (shows (c .before)))
+enter-requires : tie.Need-enter-requires
+enter-requires c κs =
+    let told = c .before .before in
+    let start = told .before .before .before in
+    let h = numbers told in
+    let from = simp (toZ-ofZ, start .fits .from) at (c .before .index .ensures) in
+    let to = simp (toZ-ofZ, start .fits .to) at (c .index2 .ensures) in
+    (start .pre, rw (from, to) ((h .first .high, h .second .high, h .different), tt), raw-within _ _ (start .pre) (let-pass told) _ (shows c))
 
 returns : tie.Need-returns
 returns c =
@@ -92,21 +59,19 @@ returns c =
 
 returns-2 : tie.Need-returns-2
 returns-2 c =
-    let told = c .before .before .before .before .before in
-    c .settle .ensures ∙ concluded-enter _ _ (told .before .before .before .pre) (let-pass told) (c .before .before .update .result) (shows (c .before .before))
+    let told = c .before .before .before in
+    c .enter .ensures ∙ concluded-enter _ _ (told .before .before .before .pre) (let-pass told) _ (shows (c .before))
 
 pub arc-spec : {M : Type 1} → statement M
 arc-spec =
     tie.close
     (tie.spec
-    pair-gate-requires
-    enum-known-refusal
-    refused-requires
-    enum-told
-    index-requires
-    index-requires-2
-    update-requires
-    concerned-requires
-    settle-requires
+    (λ c κs. search needs)
+    (λ c. search needs)
+    (λ c κs. search needs)
+    (λ c. search needs)
+    (λ c κs. simp (toZ-ofZ, c .before .before .before .fits .from) (numbers c .first .low))
+    (λ c κs. simp (toZ-ofZ, c .before .before .before .before .fits .to) (numbers (c .before) .second .low))
+    enter-requires
     returns
     returns-2)

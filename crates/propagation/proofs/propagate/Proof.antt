@@ -1,67 +1,61 @@
--- `propagation::propagate` meets its contract: one round after the other. The measure is the rounds that are left. Assumes nothing.
+-- `propagation::propagate` meets its contract: one turn after the other. The measure is the turns that are left. Assumes nothing.
 use borrow.Author.Needs.{needs}
-use mathlib.Core.Path.{refl, sym, ap, _∙_}
 use Prim.Native.Nat.{_≤_, _-_}
 use native.Mathlib.Omega.{arith}
-use Rattle.words.specs.Bit.{bit}
-use Rattle.board.specs.Paper.View.{view}
-use Rattle.board.specs.Tests.Decides.{live-is, valid-is}
-use Rattle.limits.specs.Marked.{bit-live, bit-valid}
-use Rattle.propagation.specs.Reaches.{reached-self}
-use Rattle.propagation.specs.Rounds.{Rounds, early-times, late-times, work}
+use Rattle.energy.specs.Energy.{Times}
+use Rattle.propagation.specs.Turns.{Run, run-none, run-on, run-onward, run-shut}
 use Rattle.propagation.proofs.propagate.Statement.{statement}
 use Rattle.propagation.proofs.propagate.Tie as tie
 
 abbrev Inv-loop : tie.InvT-loop
-Inv-loop due b live valid earliest₀ latest₀ before₀ after₀ left₀ stuck₀ counter₀ earliest latest before after left stuck counter = (counter ≤ 16) × Rounds b live valid earliest latest before after
+Inv-loop earliest₀ latest₀ before₀ after₀ lengths live valid left₀ rest₀ stuck₀ counter₀ earliest latest before after left rest stuck counter =
+    record {
+      counted : counter ≤ 65536;
+      early : Times earliest;
+      late : Times latest;
+      run : Run live rest valid lengths earliest₀ latest₀ before₀ after₀ earliest latest before after stuck;
+    }
 
 abbrev μ-loop : tie.MeasureT-loop
-μ-loop due b live valid earliest₀ latest₀ before₀ after₀ left₀ stuck₀ counter₀ earliest latest before after left stuck counter = 16 - counter
-
-live-requires : tie.Need-live-requires Inv-loop μ-loop
-live-requires c κs = search needs
-
-marked-requires : tie.Need-marked-requires Inv-loop μ-loop
-marked-requires c κs = search needs
+μ-loop earliest₀ latest₀ before₀ after₀ lengths live valid left₀ rest₀ stuck₀ counter₀ earliest latest before after left rest stuck counter = 65536 - counter
 
 loop-holds : tie.Need-loop-holds Inv-loop μ-loop
 loop-holds c =
-    let marked = c .before .before .before .before in
-    let live = marked .before .before .before in
-    let start = live .before .before .before in
-    let b = start .args .t1 in
-    let rounds : Rounds b _ _ _ _ _ _ =
     record {
-      lives = λ x e. live-is (view b) x .yes (sym (ap (λ w. bit w x) (live .live .ensures) ∙ bit-live b x) ∙ e);
-      sound = λ x e. valid-is (view b) x .yes (sym (ap (λ w. bit w x) (marked .marked .ensures) ∙ bit-valid b x) ∙ e);
-      reached = reached-self b (start .pre);
+      counted = omega arith;
+      early = c .pre .0;
+      late = c .pre .1;
+      run = run-none _ _ _ _ _ _ _;
     }
-    in
-    (omega arith, rounds)
 
-round-requires : tie.Need-round-requires Inv-loop μ-loop
-round-requires c κs =
-    let h = c .before .before .before .before .before .before .before .before .loop .inv .1 in
-    (early-times _ _ _ _ _ _ _ h, late-times _ _ _ _ _ _ _ h, work _ _ _ _ _ _ _ h)
-
-next-round-requires : tie.Need-next-round-requires Inv-loop μ-loop
-next-round-requires c κs = search needs
-
-add-counter : tie.Need-add-counter Inv-loop μ-loop
-add-counter c = search needs
-
-loop-less : tie.Need-loop-less Inv-loop μ-loop
-loop-less c = omega arith
+turn-requires : tie.Need-turn-requires Inv-loop μ-loop
+turn-requires c κs =
+    let at = c .before .before .before .before .before .before .before .before .before in
+    (at .loop .inv .early, at .loop .inv .late, at .before .pre .2)
 
 loop-again : tie.Need-loop-again Inv-loop μ-loop
 loop-again c =
-    let led = c .before in
-    let begun = led .before .before .before .before .before .before .before .before in
-    let at = begun .before in
-    (omega (arith, begun .loop-test .taken), led .round .ensures _ refl (at .loop .inv .1))
+    let rest = c .before in
+    let ran = rest .before .before in
+    let begun = ran .before .before .before .before .before .before .before .before .before in
+    let inv = begun .before .loop .inv in
+    let ((early, late), (onward, shut)) = ran .turn .ensures in
+    record {
+      counted = omega (arith, begun .loop-test .taken);
+      early = early;
+      late = late;
+      run = run-on _ _ _ _ _ _ _ _ _ _ _ _ _ (inv .run) _ _ _ _ _ _ _ onward shut (rest .difference .ensures) (rest .before .union .ensures);
+    }
 
 returns : tie.Need-returns Inv-loop μ-loop
-returns c = c .before .loop .inv .1 .reached
+returns c =
+    let run = c .before .loop .inv .run in
+    (run-onward _ _ _ _ _ _ _ _ _ _ _ _ _ run, run-shut _ _ _ _ _ _ _ _ _ _ _ _ _ run)
+
+returns-2 : tie.Need-returns-2 Inv-loop μ-loop
+returns-2 c =
+    let run = c .before .before .before .loop .inv .run in
+    (run-onward _ _ _ _ _ _ _ _ _ _ _ _ _ run, run-shut _ _ _ _ _ _ _ _ _ _ _ _ _ run)
 
 pub propagate-spec : {M : Type 1} → statement M
 propagate-spec =
@@ -69,12 +63,15 @@ propagate-spec =
     (tie.spec
     Inv-loop
     μ-loop
-    live-requires
-    marked-requires
     loop-holds
-    round-requires
-    next-round-requires
-    add-counter
-    loop-less
+    (λ c κs. search needs)
+    (λ c κs. search needs)
+    turn-requires
+    (λ c κs. search needs)
+    (λ c κs. search needs)
+    (λ c κs. search needs)
+    (λ c. search needs)
+    (λ c. omega arith)
     loop-again
-    returns)
+    returns
+    returns-2)

@@ -2,6 +2,7 @@
 -- left are a word, which gets smaller. Assumes nothing.
 use mathlib.Core.Path.{ap, subst}
 use Prim.Native.Nat.{_<_, _^_}
+use native.Mathlib.Omega.{arith}
 use Rattle.words.specs.BitLaws.{without-lt}
 use Rattle.words.specs.Walk.{walk-falls, visited, none-left}
 use Rattle.board.specs.declared.Board.{Board}
@@ -9,33 +10,56 @@ use Rattle.board.specs.Paper.Limits.{jobLimit}
 use Rattle.board.specs.Paper.View.{view}
 use Rattle.rules.specs.Values.{inferredOf}
 use Rattle.rules.specs.Searched.{Searched}
-use Rattle.rules.specs.JobSearched.{JobSettled}
-use Rattle.search.specs.PairsWalk.{Read, JobsLeft, all-left}
+use Rattle.rules.specs.JobSearched.{JobSettled, read-early, read-late}
+use Rattle.rules.specs.Dominance.{represented}
+use Rattle.search.specs.PairsWalk.{Read, JobsLeft, all-left, done-settled}
 use borrow.Author.Needs.{needs}
 use Rattle.search.proofs.at_jobs.Statement.{statement}
 use Rattle.search.proofs.at_jobs.Tie as tie
 
 abbrev Inv-loop : tie.InvT-loop
-Inv-loop live valid earliest latest lengths before after left₀ left =
-    (left < 2 ^ jobLimit) × ((b : Board) → Read b live valid earliest latest lengths before after → JobsLeft (view b) left)
+Inv-loop live valid earliest latest lengths before after left₀ early₀ late₀ left early late =
+    (left < 2 ^ jobLimit)
+    × (early < jobLimit)
+    × (late < jobLimit)
+    × ((b : Board) → Read b live valid earliest latest lengths before after → JobsLeft (view b) left)
 
 abbrev μ-loop : tie.MeasureT-loop
-μ-loop live valid earliest latest lengths before after left₀ left = left
+μ-loop live valid earliest latest lengths before after left₀ early₀ late₀ left early late = left
 
 loop-holds : tie.Need-loop-holds Inv-loop μ-loop
-loop-holds c = (c .fits .live .fits, λ b h. all-left h (c .fits .live .fits) _)
+loop-holds c = (search needs, omega arith, omega arith, λ b h. all-left h (c .fits .live .fits) _)
 
 lowest-requires : tie.Need-lowest-requires Inv-loop μ-loop
 lowest-requires c κs = search needs
 
+difference-requires : tie.Need-difference-requires Inv-loop μ-loop
+difference-requires c κs = search needs
+
 without-requires : tie.Need-without-requires Inv-loop μ-loop
 without-requires c κs = search needs
+
+representative-requires : tie.Need-representative-requires Inv-loop μ-loop
+representative-requires c κs = search needs
+
+representative-requires-2 : tie.Need-representative-requires-2 Inv-loop μ-loop
+representative-requires-2 c κs = search needs
 
 at-job-requires : tie.Need-at-job-requires Inv-loop μ-loop
 at-job-requires c κs = search needs
 
 enum-known-single : tie.Need-enum-known-single Inv-loop μ-loop
 enum-known-single c = search needs
+
+-- from the search at a job back to the word without it, to the jobs done, to the turn's begin
+abbrev rest-of : tie.After-at-job Inv-loop μ-loop → tie.After-without Inv-loop μ-loop
+rest-of c = c .before .before .before
+
+abbrev done-of : tie.After-at-job Inv-loop μ-loop → tie.After-difference Inv-loop μ-loop
+done-of c = rest-of c .before
+
+abbrev turn-of : tie.After-at-job Inv-loop μ-loop → tie.At-loop Inv-loop μ-loop
+turn-of c = done-of c .before .before .before
 
 -- what the arrays at the entry are read from
 abbrev ReadAt : tie.Start Inv-loop μ-loop → Board → Type 0
@@ -45,11 +69,15 @@ ReadAt s b =
 
 -- what the search at a job says of the board
 searched : (c : tie.After-at-job Inv-loop μ-loop) (b : Board)
-    → let low = c .before .before in
-    ReadAt (low .before .before .before) b → Searched (view b) (JobSettled (view b) (low .lowest .result)) (inferredOf (c .at-job .result))
+    → ReadAt (turn-of c .before) b → Searched (view b) (JobSettled (view b) (done-of c .before .lowest .result)) (inferredOf (c .at-job .result))
 searched c b h =
-    let low = c .before .before in
-    c .at-job .ensures b (h .arrays) (low .before .before .loop .inv .1 b h .member _ (low .lowest .ensures .member))
+    let turn = turn-of c in
+    let low = done-of c .before .lowest in
+    let jobs = turn .loop .inv .3 b h in
+    let settled = done-settled h (turn .before .fits .live .fits) jobs (done-of c .difference .ensures) in
+    c .at-job .ensures b (h .arrays) (jobs .member _ (low .ensures .member))
+    (represented (read-early (h .arrays)) _ _ _ (settled _) (c .before .before .representative .ensures))
+    (represented (read-late (h .arrays)) _ _ _ (settled _) (c .before .representative2 .ensures))
 
 returns : tie.Need-returns Inv-loop μ-loop
 returns c b h = rw (ap inferredOf (c .before .single .given .1)) at (searched (c .before .before .before) b h)
@@ -59,22 +87,24 @@ enum-told c = search needs
 
 loop-less : tie.Need-loop-less Inv-loop μ-loop
 loop-less c =
-    let job = c .before .before .before in
-    walk-falls (job .before .before .before .loop .inv .0) (job .before .lowest .ensures) (job .without .ensures)
+    let job = c .before .before in
+    walk-falls (turn-of job .loop .inv .0) (done-of job .before .lowest .ensures) (rest-of job .without .ensures)
 
 loop-again : tie.Need-loop-again Inv-loop μ-loop
 loop-again c =
-    let job = c .before .before .before in
-    let low = job .before .lowest in
-    let loop = job .before .before .before .loop in
+    let job = c .before .before in
+    let low = done-of job .before .lowest in
+    let loop = turn-of job .loop in
     let none = ap inferredOf (c .enum-told .given .1) in
-    rw (job .without .ensures) (
+    rw (rest-of job .without .ensures) (
       without-lt jobLimit (loop .left) (low .result) (loop .inv .0),
-      λ b h. visited jobLimit _ _ (loop .left) (low .result) (loop .inv .1 b h) (low .ensures) (rw none at (searched (c .before .before) b h)),
+      job .before .before .representative .ensures .0,
+      job .before .representative2 .ensures .0,
+      λ b h. visited jobLimit _ _ (loop .left) (low .result) (loop .inv .3 b h) (low .ensures) (rw none at (searched job b h)),
     )
 
 returns-2 : tie.Need-returns-2 Inv-loop μ-loop
-returns-2 c b h = none-left jobLimit _ _ (subst (JobsLeft (view b)) (c .loop-test .left) (c .before .loop .inv .1 b h))
+returns-2 c b h = none-left jobLimit _ _ (subst (JobsLeft (view b)) (c .loop-test .left) (c .before .loop .inv .3 b h))
 
 pub at-jobs-spec : {M : Type 1} → statement M
 at-jobs-spec =
@@ -84,7 +114,10 @@ at-jobs-spec =
     μ-loop
     loop-holds
     lowest-requires
+    difference-requires
     without-requires
+    representative-requires
+    representative-requires-2
     at-job-requires
     enum-known-single
     returns

@@ -1,28 +1,31 @@
--- `updates::exclude` meets its contract, mark by mark. Assumes nothing.
+-- `updates::exclude` meets its contract, mark by mark: to strike out the set of one job is to invalidate it. Assumes nothing.
+use native.Mathlib.Omega.{arith}
 use borrow.Author.Needs.{needs}
-use borrow.Author.Tests.{eq-eqb, ne-eqb}
-use Rattle.board.specs.Update.Updates.{exclude}
+use Rattle.board.specs.Update.Filled.{filled}
+use Rattle.board.specs.Update.Excluded.{exclude-valid, exclude-invalid, exclude-undecided}
 use Rattle.updates.proofs.exclude.Statement.{statement}
 use Rattle.updates.proofs.exclude.Tie as tie
 
-element-copy-out-mark : tie.Need-element-copy-out-mark
-element-copy-out-mark c = search needs
-
 returns : tie.Need-returns
-unfolding exclude
-returns c = rw (eq-eqb _ _ (c .if1 .taken))
+returns c b e within =
+    let a = c .before .before .args in
+    exclude-valid (filled b (a .lengths .now) (a .earliest .now) (a .latest .now) (a .marks .now) (a .after .now) (a .before .now)) (a .job)
+    (c .if1 .taken)
 
 returns-2 : tie.Need-returns-2
-unfolding exclude
-returns-2 c = rw (ne-eqb _ _ (c .before .if1 .left), eq-eqb _ _ (c .if2 .taken))
-
-invalidate-requires : tie.Need-invalidate-requires
-invalidate-requires c κs = search needs
+returns-2 c b e within =
+    let a = c .before .before .before .args in
+    exclude-invalid (filled b (a .lengths .now) (a .earliest .now) (a .latest .now) (a .marks .now) (a .after .now) (a .before .now)) (a .job)
+    (c .if2 .taken)
 
 returns-3 : tie.Need-returns-3
-unfolding exclude
-returns-3 c = rw (ne-eqb _ _ (c .before .before .if1 .left), ne-eqb _ _ (c .before .if2 .left), c .invalidate .ensures)
+returns-3 c b e within =
+    let with = c .before .before .before .before .before .before .before in
+    let start = with .before .before .before .before in
+    exclude-undecided _ _ within _ _ (omega (arith, e, start .pre .1)) (with .before .before .if1 .left) (with .before .if2 .left)
+    (with .with .ensures) (c .strike .ensures b e)
 
 pub exclude-spec : {M : Type 1} → statement M
 exclude-spec =
-    tie.close (tie.spec element-copy-out-mark returns returns-2 invalidate-requires returns-3)
+    tie.close
+    (tie.spec (λ c. search needs) returns returns-2 (λ c κs. search needs) (λ c κs. search needs) returns-3)

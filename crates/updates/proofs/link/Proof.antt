@@ -1,5 +1,6 @@
--- `updates::link` meets its contract, by that of `words::with`. Assumes nothing.
+-- `updates::link` meets its contract. Assumes nothing.
 use borrow.Author.Needs.{needs}
+use mathlib.Core.Path.{refl}
 use Rattle.updates.proofs.link.Statement.{statement}
 use Rattle.updates.proofs.link.Tie as tie
 
@@ -12,11 +13,11 @@ element-copy-out-with c = search needs
 with-requires : tie.Need-with-requires
 with-requires c κs = search needs
 
-mul-board : tie.Need-mul-board
-mul-board c = search needs
+mul-before : tie.Need-mul-before
+mul-before c = search needs
 
-element-write-board : tie.Need-element-write-board
-element-write-board c = search needs
+element-write-before : tie.Need-element-write-before
+element-write-before c = search needs
 
 mul-with-2 : tie.Need-mul-with-2
 mul-with-2 c = search needs
@@ -27,14 +28,14 @@ element-copy-out-with-2 c = search needs
 with-requires-2 : tie.Need-with-requires-2
 with-requires-2 c κs = search needs
 
-mul-board-2 : tie.Need-mul-board-2
-mul-board-2 c = search needs
+mul-after : tie.Need-mul-after
+mul-after c = search needs
 
-element-write-board-2 : tie.Need-element-write-board-2
-element-write-board-2 c = search needs
+element-write-after : tie.Need-element-write-after
+element-write-after c = search needs
 
 returns : tie.Need-returns
-returns c = rw (c .before .before .with .ensures, c .with2 .ensures)
+returns c = rw (c .before .before .with .ensures, c .with2 .ensures) (refl, refl)
 
 pub link-spec : {M : Type 1} → statement M
 link-spec =
@@ -43,11 +44,11 @@ link-spec =
     mul-with
     element-copy-out-with
     with-requires
-    mul-board
-    element-write-board
+    mul-before
+    element-write-before
     mul-with-2
     element-copy-out-with-2
     with-requires-2
-    mul-board-2
-    element-write-board-2
+    mul-after
+    element-write-after
     returns)

@@ -1,70 +1,102 @@
--- `updates::tighten` meets its contract: the test of the window is the test of the row, and to store the rest of the row
--- again changes nothing. Assumes nothing.
-use mathlib.Core.Path.{sym, _∙_}
+-- `updates::tighten` meets its contract: the ends stored are those of the window that the job is given. Assumes nothing.
+use mathlib.Core.Path.{_≡_, refl, sym, _∙_}
 use lib.IntN.{pos}
 use lib.ListN.{getD}
-use lib.Seq.{set-getD}
 use borrow.Author.Needs.{needs}
 use mir.Syntax.{w32}
 use mir.Val.{SFits}
 use mir.ValLaws.{toZ-ofZ}
-use Rattle.board.specs.Update.Updates.{tighten}
+use Rattle.minutes.specs.Bools.{refuted}
+use Rattle.board.specs.Paper.Values.{sideOf}
+use Rattle.board.specs.Update.Filled.{filled}
+use Rattle.board.specs.Update.Shown.{bound-shown}
+use Rattle.windows.specs.Windows.{bounded}
+use Rattle.windows.specs.WindowLaws.{bounded-moderate}
+use Rattle.updates.specs.Tightened.{bound-fits, bound-cramped}
 use Rattle.updates.proofs.tighten.Statement.{statement}
 use Rattle.updates.proofs.tighten.Tie as tie
 
-mul-holds : tie.Need-mul-holds
-mul-holds c = search needs
+returns : tie.Need-returns
+returns c b job =
+    let start = c .before .before .before .before in
+    let a = start .args in
+    let board = filled b (a .lengths .now) (a .earliest .now) (a .latest .now) (a .marks .now) (b .after) (b .before) in (
+      λ _. bound-shown board (sideOf (a .side)) (a .job) _
+          (sym (simp (toZ-ofZ, start .fits .time) at (c .before .is-bounded .ensures board)) ∙ c .if1 .taken),
+      λ e. absurd (refuted e refl),
+    )
 
-element-copy-out-holds : tie.Need-element-copy-out-holds
-element-copy-out-holds c = search needs
+-- the window that the job is given
+given : (c : tie.After-bounded)
+    → let a = c .before .before .before .before .before .before .before .args in
+    c .bounded .result
+    ≡ bounded (sideOf (a .side)) (a .time) (record { earliest = getD (a .earliest .now) (a .job) (pos 0); latest = getD (a .latest .now) (a .job) (pos 0) })
+given c =
+    let start = c .before .before .before .before .before .before .before in
+    let a = start .args in
+    let early : SFits w32 (getD (a .earliest .now) (a .job) (pos 0)) = search needs in
+    let late : SFits w32 (getD (a .latest .now) (a .job) (pos 0)) = search needs in
+    simp (toZ-ofZ, early, late, start .fits .time) at (c .bounded .ensures)
 
 holds-requires : tie.Need-holds-requires
-holds-requires c κs = search needs
-
-mul-earliest : tie.Need-mul-earliest
-mul-earliest c = search needs
-
-element-set-from-earliest : tie.Need-element-set-from-earliest
-element-set-from-earliest c = search needs
-
-mul-latest : tie.Need-mul-latest
-mul-latest c = search needs
-
-element-set-from-latest : tie.Need-element-set-from-latest
-element-set-from-latest c = search needs
-
-returns : tie.Need-returns
-unfolding tighten
-returns c =
-    let a = c .before .before .before .before .before .args in
-    let long : SFits w32 (getD (a .t1 .lengths) (a .job) (pos 0)) = search needs in
-    let earliest : SFits w32 (a .window .earliest) = search needs in
-    let latest : SFits w32 (a .window .latest) = search needs in
-    let room = sym (simp (toZ-ofZ, long) at (c .before .before .before .holds .ensures)) ∙ c .before .before .if1 .taken in
-    rw room (simp (toZ-ofZ, earliest, latest, set-getD))
-
-exclude-requires : tie.Need-exclude-requires
-exclude-requires c κs = search needs
+holds-requires c κs =
+    let start = c .before .before .before .before .before .before .before .before in
+    let a = start .args in
+    let (_, moderate, early, long) = start .pre in
+    let fits : SFits w32 (getD (a .lengths .now) (a .job) (pos 0)) = search needs in
+    (rw (given (c .before)) (bounded-moderate (sideOf (a .side)) (a .time) _ moderate early), simp (toZ-ofZ, fits) long)
 
 returns-2 : tie.Need-returns-2
-unfolding tighten
-returns-2 c =
-    let a = c .before .before .before .before .args in
-    let long : SFits w32 (getD (a .t1 .lengths) (a .job) (pos 0)) = search needs in
-    let room = sym (simp (toZ-ofZ, long) at (c .before .before .holds .ensures)) ∙ c .before .if1 .left in
-    rw room (c .exclude .ensures)
+returns-2 c b job =
+    let test = c .before .before in
+    let at = test .before .before .before in
+    let first = at .before .before .before in
+    let start = first .before .before .before .before in
+    let a = start .args in
+    let board = filled b (a .lengths .now) (a .earliest .now) (a .latest .now) (a .marks .now) (b .after) (b .before) in
+    let long : SFits w32 (getD (a .lengths .now) (a .job) (pos 0)) = search needs in
+    let earliest : SFits w32 (at .bounded .result .earliest) = search needs in
+    let latest : SFits w32 (at .bounded .result .latest) = search needs in (
+      λ _. bound-fits board (sideOf (a .side)) (a .job) (a .time) (at .bounded .result) job
+          (sym (simp (toZ-ofZ, start .fits .time) at (first .before .is-bounded .ensures board)) ∙ first .if1 .left) (given at)
+          _ _ (toZ-ofZ w32 _ earliest) (toZ-ofZ w32 _ latest) (sym (simp (toZ-ofZ, long) at (test .before .holds .ensures)) ∙ test .if2 .taken),
+      λ e. absurd (refuted e refl),
+    )
+
+returns-3 : tie.Need-returns-3
+returns-3 c b job =
+    let at = c .before .before .before in
+    let first = at .before .before .before in
+    let start = first .before .before .before .before in
+    let a = start .args in
+    let board = filled b (a .lengths .now) (a .earliest .now) (a .latest .now) (a .marks .now) (b .after) (b .before) in
+    let long : SFits w32 (getD (a .lengths .now) (a .job) (pos 0)) = search needs in (
+      λ e. absurd (refuted refl e),
+      λ _. (
+        bound-cramped board (sideOf (a .side)) (a .job) (a .time) (at .bounded .result) job
+            (sym (simp (toZ-ofZ, start .fits .time) at (first .before .is-bounded .ensures board)) ∙ first .if1 .left) (given at)
+            (sym (simp (toZ-ofZ, long) at (c .before .holds .ensures)) ∙ c .if2 .left),
+        refl,
+      ),
+    )
 
 pub tighten-spec : {M : Type 1} → statement M
 tighten-spec =
     tie.close
     (tie.spec
-    mul-holds
-    element-copy-out-holds
-    holds-requires
-    mul-earliest
-    element-set-from-earliest
-    mul-latest
-    element-set-from-latest
+    (λ c κs. search needs)
     returns
-    exclude-requires
-    returns-2)
+    (λ c. search needs)
+    (λ c. search needs)
+    (λ c. search needs)
+    (λ c. search needs)
+    (λ c κs. search needs)
+    (λ c. search needs)
+    (λ c. search needs)
+    holds-requires
+    (λ c. search needs)
+    (λ c. search needs)
+    (λ c. search needs)
+    (λ c. search needs)
+    returns-2
+    returns-3)

@@ -6,11 +6,18 @@ use borrow.Author.Needs.{needs}
 use mir.Syntax.{w32}
 use mir.Val.{SFits}
 use mir.ValLaws.{toZ-ofZ}
+use Rattle.board.specs.Paper.Tests.{live}
 use Rattle.views.proofs.shown_pair.Statement.{statement}
 use Rattle.views.proofs.shown_pair.Tie as tie
 
+element-copy-out-is-live : tie.Need-element-copy-out-is-live
+element-copy-out-is-live c = search needs
+
 is-live-requires : tie.Need-is-live-requires
 is-live-requires c κs = search needs
+
+element-copy-out-is-live-2 : tie.Need-element-copy-out-is-live-2
+element-copy-out-is-live-2 c = search needs
 
 is-live-requires-2 : tie.Need-is-live-requires-2
 is-live-requires-2 c κs = search needs
@@ -22,17 +29,19 @@ shown-gap-requires : tie.Need-shown-gap-requires
 shown-gap-requires c κs = search needs
 
 returns : tie.Need-returns
+unfolding live
 returns c =
     let lives = c .before .before in
-    let first = sym (lives .before .before .before .is-live .ensures) ∙ lives .before .before .if1 .taken in
+    let first = sym (lives .before .before .before .before .is-live .ensures) ∙ lives .before .before .before .if1 .taken in
     let second = sym (lives .before .is-live2 .ensures) ∙ lives .if2 .taken in
     let gap : SFits w32 (c .shown-gap .result) = search needs in
     rw (first, second, ← c .before .shown-arcs .ensures, ← c .shown-gap .ensures) (simp (toZ-ofZ, gap))
 
 returns-2 : tie.Need-returns-2
+unfolding live
 returns-2 c =
     elim (c .if1 .came) [
-      | inl w ↦ rw (sym (w .1 .ensures) ∙ w .2 .left, and-false)
+      | inl w ↦ rw (sym (w .2 .ensures) ∙ w .3 .left, and-false)
       | inr w ↦ rw (sym (c .before .is-live .ensures) ∙ w .left)
     ]
 
@@ -40,7 +49,9 @@ pub shown-pair-spec : {M : Type 1} → statement M
 shown-pair-spec =
     tie.close
     (tie.spec
+    element-copy-out-is-live
     is-live-requires
+    element-copy-out-is-live-2
     is-live-requires-2
     shown-arcs-requires
     shown-gap-requires

@@ -1,11 +1,17 @@
 -- `closure::check::passes` meets its contract: the test of check 0 holds exactly of the boards within their limits that obey the
 -- rules. Assumes nothing.
-use mathlib.Core.Path.{sym, _∙_}
+use mathlib.Core.Path.{sym, ap, _∙_}
 use borrow.Author.Needs.{needs}
 use borrow.Author.Tests.{not-true, not-false}
 use Rattle.minutes.specs.Bools.{is-false, refuted}
+use Rattle.board.specs.declared.Board.{Board}
+use Rattle.board.specs.Paper.View.{view}
 use Rattle.board.specs.Paper.Limits.{Within}
+use Rattle.board.specs.Inference.Infers.{Obeys}
 use Rattle.board.specs.Tests.LimitsDecided.{limits-yes, limits-show}
+use Rattle.rules.specs.Searched.{Searched}
+use Rattle.rules.specs.Values.{inferredOf}
+use Rattle.closure.specs.Reads.{arrays-hold, board-read}
 use Rattle.closure.specs.Checked.{passes-within, passes-obeys, obeys-passes}
 use Rattle.closure.proofs.check.passes.Statement.{statement}
 use Rattle.closure.proofs.check.passes.Tie as tie
@@ -18,11 +24,32 @@ returns c =
     sym (is-false _ λ e.
     refuted (not-true _ (c .if1 .taken)) (c .before .within-limits .ensures ∙ limits-show _ (passes-within _ e)))
 
-within : (c : tie.Else1) → Within (c .before .before .args .b)
+within : (c : tie.Else1) → Within (c .before .before .args .t1)
 within c = limits-yes _ (sym (c .before .within-limits .ensures) ∙ not-false _ (c .if1 .left))
 
+sets-requires : tie.Need-sets-requires
+sets-requires c κs = within (c .before .before) .limits .jobs
+
+-- from the search back to the words of live and of valid jobs, and to the test of the limits
+abbrev sets-of : tie.After-find-arg5 → tie.After-sets
+sets-of c = c .before .before .before .before .before .before
+
+abbrev else-of : tie.After-find-arg5 → tie.Else1
+else-of c = sets-of c .before .before .before
+
+abbrev board-of : tie.After-find-arg5 → Board
+board-of c = else-of c .before .before .args .t1
+
 find-requires : tie.Need-find-requires
-find-requires c κs = within c
+find-requires c κs = arrays-hold (board-of c) (within (else-of c))
+
+-- what the search says of the board
+searched : (c : tie.After-find)
+    → let v = view (board-of (c .before)) in
+    Searched v (Obeys v) (inferredOf (c .find .result))
+searched c =
+    let b = board-of (c .before) in
+    c .find .ensures b (board-read b (within (else-of (c .before))) (sets-of (c .before) .sets .ensures .0) (sets-of (c .before) .sets .ensures .1))
 
 enum-told : tie.Need-enum-told
 enum-told c = search needs
@@ -32,11 +59,12 @@ enum-told-2 c = search needs
 
 returns-2 : tie.Need-returns-2
 returns-2 c =
-    sym (obeys-passes _ (within (c .before .before .before)) (rw (c .enum-told .given .1) at (c .before .before .find .ensures)))
+    let asked = c .before .before in
+    sym (obeys-passes _ (within (else-of (asked .before))) (rw (ap inferredOf (c .enum-told .given .1)) at (searched asked)))
 
 returns-3 : tie.Need-returns-3
 returns-3 c =
-    let (infers, unshown) = rw (c .enum-told2 .given .1) at (c .before .before .find .ensures) in
+    let (infers, unshown) = rw (ap inferredOf (c .enum-told2 .given .1)) at (searched (c .before .before)) in
     sym (is-false _ λ e. unshown (passes-obeys _ e _ infers))
 
 pub passes-spec : {M : Type 1} → statement M
@@ -45,6 +73,7 @@ passes-spec =
     (tie.spec
     within-limits-requires
     returns
+    sets-requires
     find-requires
     enum-told
     enum-told-2

@@ -4,15 +4,15 @@ use mathlib.Core.Path.{_≡_}
 use mathlib.Core.Bool.{true}
 use Rattle.words.specs.Bit.{bit}
 use Rattle.propagation.specs.Arcs.{ToCome, to-come, fewer, Sound, sound-none}
-use Rattle.propagation.specs.Detection.{Beside, to-job, from-job}
+use Rattle.propagation.specs.Detection.{Beside, beside-more}
 use Rattle.propagation.proofs.detection.detect_beside.Statement.{statement}
 use Rattle.propagation.proofs.detection.detect_beside.Tie as tie
 
 abbrev Inv-loop : tie.InvT-loop
-Inv-loop before₀ after₀ job others earliest latest lengths known-before known-after left₀ before after left = ToCome (λ k. bit others k ≡ true) left × Sound (Beside job others earliest latest lengths) before₀ after₀ before after
+Inv-loop side before₀ after₀ job others earliest latest lengths known-before known-after left₀ before after left = ToCome (λ k. bit others k ≡ true) left × Sound (Beside job others earliest latest lengths) before₀ after₀ before after
 
 abbrev μ-loop : tie.MeasureT-loop
-μ-loop before₀ after₀ job others earliest latest lengths known-before known-after left₀ before after left = left
+μ-loop side before₀ after₀ job others earliest latest lengths known-before known-after left₀ before after left = left
 
 mul-known-before : tie.Need-mul-known-before Inv-loop μ-loop
 mul-known-before c = search needs
@@ -35,26 +35,21 @@ lowest-requires c κs = search needs
 without-requires : tie.Need-without-requires Inv-loop μ-loop
 without-requires c κs = search needs
 
-detect-requires : tie.Need-detect-requires Inv-loop μ-loop
-detect-requires c κs = search needs
-
-detect-requires-2 : tie.Need-detect-requires-2 Inv-loop μ-loop
-detect-requires-2 c κs = search needs
+detect-on-requires : tie.Need-detect-on-requires Inv-loop μ-loop
+detect-on-requires c κs = search needs
 
 loop-less : tie.Need-loop-less Inv-loop μ-loop
 loop-less c =
-    let walk = c .before .before .before .before .before .before in
+    let walk = c .before .before .before in
     fewer (walk .before .before .before .loop .inv .0) (walk .before .lowest .ensures) (walk .without .ensures) .1
 
 loop-again : tie.Need-loop-again Inv-loop μ-loop
 loop-again c =
-    let first = c .before .before .before in
-    let walk = first .before .before .before in
+    let walk = c .before .before .before in
     let (left, run) = walk .before .before .before .loop .inv in
     let low = walk .before .lowest .ensures in
     let member = left .member _ (low .member) in
-    let half = to-job _ _ _ _ _ _ _ _ _ run _ member _ _ (first .detect .ensures) in
-    (fewer left low (walk .without .ensures) .0, from-job _ _ _ _ _ _ _ _ _ half _ member _ _ (c .detect2 .ensures))
+    (fewer left low (walk .without .ensures) .0, beside-more _ _ _ _ _ _ _ _ _ run _ member _ _ (c .detect-on .ensures))
 
 mul-difference : tie.Need-mul-difference Inv-loop μ-loop
 mul-difference c = search needs
@@ -74,8 +69,8 @@ element-copy-out-difference-2 c = search needs
 difference-requires-2 : tie.Need-difference-requires-2 Inv-loop μ-loop
 difference-requires-2 c κs = search needs
 
-union-requires : tie.Need-union-requires Inv-loop μ-loop
-union-requires c κs = search needs
+ends-at-requires : tie.Need-ends-at-requires Inv-loop μ-loop
+ends-at-requires c κs = search needs
 
 returns : tie.Need-returns Inv-loop μ-loop
 returns c = c .before .before .before .before .before .before .loop .inv .1
@@ -93,8 +88,7 @@ detect-beside-spec =
     loop-holds
     lowest-requires
     without-requires
-    detect-requires
-    detect-requires-2
+    detect-on-requires
     loop-less
     loop-again
     mul-difference
@@ -103,5 +97,5 @@ detect-beside-spec =
     mul-difference-2
     element-copy-out-difference-2
     difference-requires-2
-    union-requires
+    ends-at-requires
     returns)

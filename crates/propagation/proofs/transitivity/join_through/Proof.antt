@@ -14,8 +14,11 @@ Inv-loop before₀ after₀ sources through found₀ left₀ before after found 
 abbrev μ-loop : tie.MeasureT-loop
 μ-loop before₀ after₀ sources through found₀ left₀ before after found left = left
 
+no-ends-requires : tie.Need-no-ends-requires Inv-loop μ-loop
+no-ends-requires c κs = search needs
+
 loop-holds : tie.Need-loop-holds Inv-loop μ-loop
-loop-holds c = (to-come (c .fits .sources .fits) (λ x e. e), sound-none (Through _) _ _)
+loop-holds c = (to-come (c .before .fits .sources .fits) (λ x e. e), sound-none (Through _) _ _)
 
 lowest-requires : tie.Need-lowest-requires Inv-loop μ-loop
 lowest-requires c κs = search needs
@@ -26,11 +29,11 @@ without-requires c κs = search needs
 join-requires : tie.Need-join-requires Inv-loop μ-loop
 join-requires c κs = search needs
 
-ends-requires : tie.Need-ends-requires Inv-loop μ-loop
-ends-requires c κs = search needs
+ends-at-requires : tie.Need-ends-at-requires Inv-loop μ-loop
+ends-at-requires c κs = search needs
 
-union-requires : tie.Need-union-requires Inv-loop μ-loop
-union-requires c κs = search needs
+all-ends-requires : tie.Need-all-ends-requires Inv-loop μ-loop
+all-ends-requires c κs = search needs
 
 loop-less : tie.Need-loop-less Inv-loop μ-loop
 loop-less c =
@@ -44,7 +47,7 @@ loop-again c =
     let at = walk .before .before .before in
     let (left, run) = at .loop .inv in
     let low = walk .before .lowest .ensures in
-    let member = rw (at .before .pre .1) at (left .member _ (low .member)) in
+    let member = at .before .before .pre .1 _ (left .member _ (low .member)) in
     (fewer left low (walk .without .ensures) .0, row-joined _ _ _ _ _ run _ member _ _ (joined .join .ensures))
 
 returns : tie.Need-returns Inv-loop μ-loop
@@ -56,12 +59,13 @@ join-through-spec =
     (tie.spec
     Inv-loop
     μ-loop
+    no-ends-requires
     loop-holds
     lowest-requires
     without-requires
     join-requires
-    ends-requires
-    union-requires
+    ends-at-requires
+    all-ends-requires
     loop-less
     loop-again
     returns)

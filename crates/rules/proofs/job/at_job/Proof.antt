@@ -10,7 +10,7 @@ use Rattle.energy.specs.Laws.{time-fits, length-fits, length-moderate}
 use Rattle.rules.specs.Values.{inferredOf}
 use Rattle.rules.specs.Searched.{Searched}
 use Rattle.rules.specs.Settled.{Settled}
-use Rattle.rules.specs.JobSearched.{JobRead, read-early, read-late, room-is, says-room, says-late}
+use Rattle.rules.specs.JobSearched.{JobRead, Represented, read-early, read-late, room-is, says-room, says-late}
 use borrow.Author.Needs.{needs}
 use Rattle.rules.proofs.job.at_job.Statement.{statement}
 use Rattle.rules.proofs.job.at_job.Tie as tie
@@ -33,14 +33,16 @@ room-tested c b h =
 -- R4
 raise-searched : (c : tie.After-at-side) (b : Board)
     → let start = start-of (c .before .before) in
-    Read start b → Live (view b) (start .args .i) → Searched (view b) (Settled (view b) early (start .args .i)) (inferredOf (c .at-side .result))
+    let a = start .args in
+    Read start b → Live (view b) (a .i) → Represented (view b) early (a .early) (a .i)
+    → Searched (view b) (Settled (view b) early (a .i)) (inferredOf (c .at-side .result))
 raise-searched c b h = c .at-side .ensures b (read-early h)
 
-mul-t11 : tie.Need-mul-t11
-mul-t11 c = search needs
+mul-t13 : tie.Need-mul-t13
+mul-t13 c = search needs
 
-element-copy-out-t14 : tie.Need-element-copy-out-t14
-element-copy-out-t14 c = search needs
+element-copy-out-t16 : tie.Need-element-copy-out-t16
+element-copy-out-t16 c = search needs
 
 mul-holds : tie.Need-mul-holds
 mul-holds c = search needs
@@ -62,7 +64,7 @@ holds-requires c κs =
     simp (toZ-ofZ, time-fits (starts .time i), length-fits work i) (time-moderate (starts .time i), length-moderate work i)
 
 returns : tie.Need-returns
-returns c b h live = says-room b _ live (sym (room-tested (c .before) b h) ∙ not-true _ (c .if1 .taken))
+returns c b h live _ _ = says-room b _ live (sym (room-tested (c .before) b h) ∙ not-true _ (c .if1 .taken))
 
 at-side-requires : tie.Need-at-side-requires
 at-side-requires c κs = search needs
@@ -71,7 +73,8 @@ enum-known-raised : tie.Need-enum-known-raised
 enum-known-raised c = search needs
 
 returns-2 : tie.Need-returns-2
-returns-2 c b h live = rw (ap inferredOf (c .before .raised .given .1)) at (raise-searched (c .before .before .before) b h live)
+returns-2 c b h live early-known _ =
+    rw (ap inferredOf (c .before .raised .given .1)) at (raise-searched (c .before .before .before) b h live early-known)
 
 enum-told : tie.Need-enum-told
 enum-told c = search needs
@@ -80,18 +83,19 @@ at-side-requires-2 : tie.Need-at-side-requires-2
 at-side-requires-2 c κs = search needs
 
 returns-3 : tie.Need-returns-3
-returns-3 c b h live =
+returns-3 c b h live early-known late-known =
     let raised = c .before .before .before in
     let room = sym (room-tested (raised .before .before) b h) ∙ not-false _ (raised .before .if1 .left) in
     let none = ap inferredOf (c .before .enum-told .given .1) in
-    says-late b _ live room (rw none at (raise-searched raised b h live)) (inferredOf (c .at-side2 .result)) (c .at-side2 .ensures b (read-late h) live)
+    says-late b _ live room (rw none at (raise-searched raised b h live early-known)) (inferredOf (c .at-side2 .result))
+    (c .at-side2 .ensures b (read-late h) live late-known)
 
 pub at-job-spec : {M : Type 1} → statement M
 at-job-spec =
     tie.close
     (tie.spec
-    mul-t11
-    element-copy-out-t14
+    mul-t13
+    element-copy-out-t16
     mul-holds
     element-copy-out-holds
     mul-holds-2

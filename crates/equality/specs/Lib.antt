@@ -1,2 +1,0 @@
--- When two boards are the same.
-pub mod Same

@@ -1,0 +1,16 @@
+-- `propagation::detection::detect_on` meets its contract: the pair, named either way round. Assumes nothing.
+use borrow.Author.Needs.{needs}
+use Rattle.propagation.specs.Detection.{turned-pair}
+use Rattle.propagation.proofs.detection.detect_on.Statement.{statement}
+use Rattle.propagation.proofs.detection.detect_on.Tie as tie
+
+pub detect-on-spec : {M : Type 1} → statement M
+detect-on-spec =
+    tie.close
+    (tie.spec
+    (λ c. search needs)
+    (λ c κs. search needs)
+    (λ c. search needs)
+    (λ c κs. search needs)
+    (λ c. search needs)
+    (λ c. turned-pair _ _ _ _ _ _ _ _ _ (c .detect2 .ensures)))

@@ -1,0 +1,32 @@
+-- `propagation::turn_windows` meets its contract: R4 or R5 leads on, or tells jobs that can't stay. Assumes nothing.
+use borrow.Author.Needs.{needs}
+use Rattle.propagation.specs.Turns.{early-alone, late-alone, shut-early, shut-late}
+use Rattle.propagation.proofs.turn_windows.Statement.{statement}
+use Rattle.propagation.proofs.turn_windows.Tie as tie
+
+returns : tie.Need-returns
+returns c =
+    let run = c .before in
+    let (hours, (raised, shuts)) = run .push .ensures in
+    let start = run .before .before .before .before .before .before in
+    ((hours, start .pre .1), (early-alone _ _ _ _ _ _ _ _ raised, shut-early _ _ _ _ _ _ _ _ shuts))
+
+returns-2 : tie.Need-returns-2
+returns-2 c =
+    let run = c .before in
+    let (hours, (lowered, shuts)) = run .push2 .ensures in
+    let start = run .before .before .before .before .before .before in
+    ((start .pre .0, hours), (late-alone _ _ _ _ _ _ _ _ lowered, shut-late _ _ _ _ _ _ _ _ shuts))
+
+pub turn-windows-spec : {M : Type 1} → statement M
+turn-windows-spec =
+    tie.close
+    (tie.spec
+    (λ c κs. search needs)
+    (λ c κs. search needs)
+    (λ c κs. search needs)
+    returns
+    (λ c κs. search needs)
+    (λ c κs. search needs)
+    (λ c κs. search needs)
+    returns-2)
