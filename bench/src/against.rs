@@ -1,7 +1,8 @@
 //! Two libraries in one run, the calls on a checked board: microseconds before and after, and the ratio.
-use crate::compare::{compare, prepare};
+use crate::compare::{compare, prepare, prepare_found};
 use crate::entry::{Enters, Entry};
 use crate::families::{Case, FAMILIES, OUTCOMES};
+use crate::found;
 use crate::loaded::{Library, Loaded};
 use crate::loads::LOADS;
 use crate::measure::{measure, Measured, Turns};
@@ -65,14 +66,18 @@ fn print_loads(libraries: Pair) {
     }
 }
 
-/// The last entry of a case.
-fn last(libraries: Pair, case: &Case) -> Vec<Measured> {
-    prepare(case);
-    let all: Vec<Entry> = case.entries.iter().copied().chain([case.last]).collect();
+/// The last entry alone.
+fn last(libraries: Pair, entries: &[Entry], last: Entry) -> Vec<Measured> {
+    let all = [entries, &[last]].concat();
     entered(libraries, &all);
-    let [mut before, mut after] =
-        entered(libraries, &case.entries).map(|board| Last::new(board, case.last));
+    let [mut before, mut after] = entered(libraries, entries).map(|board| Last::new(board, last));
     measure(LAST, &mut [&mut before, &mut after])
+}
+
+/// The same of a case.
+fn last_of_case(libraries: Pair, case: &Case) -> Vec<Measured> {
+    prepare(case);
+    last(libraries, &case.entries, case.last)
 }
 
 fn print_families(libraries: Pair) {
@@ -84,7 +89,7 @@ fn print_families(libraries: Pair) {
                 let cases = family.cases(jobs, outcome);
                 let rows = cases
                     .iter()
-                    .map(|case| (case.manner, last(libraries, case)));
+                    .map(|case| (case.manner, last_of_case(libraries, case)));
                 let worst =
                     rows.max_by(|(_, a), (_, b)| a[1].ratio.middle.total_cmp(&b[1].ratio.middle));
                 if let Some((manner, measured)) = worst {
@@ -96,6 +101,17 @@ fn print_families(libraries: Pair) {
     }
 }
 
+fn print_found(libraries: Pair) {
+    println!("| board | outcome | jobs | before | after | ratio |");
+    println!("|---|---|---|---|---|---|");
+    for found in found::all() {
+        let jobs = prepare_found(&found).baseline.jobs;
+        let measured = last(libraries, &found.entries, found.last);
+        let name = format!("{} | {} | {jobs}", found.name, found.outcome);
+        print_row(&name, &measured);
+    }
+}
+
 /// The tables of two shared objects.
 pub fn print(before: &str, after: &str) {
     let libraries = [before, after].map(Library::load);
@@ -103,4 +119,6 @@ pub fn print(before: &str, after: &str) {
     print_loads(libraries);
     println!("\nMicroseconds of the last entry, in the manner in which the second library does worst beside the first:\n");
     print_families(libraries);
+    println!("\nMicroseconds of the last entry of the boards that the hunter found:\n");
+    print_found(libraries);
 }

@@ -2,6 +2,7 @@
 use crate::baseline;
 use crate::entry::{Enters, Entry};
 use crate::families::{Case, Outcome};
+use crate::found::Found;
 use crate::plain::Plain;
 use crate::planner;
 use bayboard::{Board, Calls, Dock, Plan, Refusal};
@@ -71,16 +72,22 @@ pub fn compare(entries: &[Entry]) {
     boards.plan(BUDGET);
 }
 
-/// All entries of a case, and a plan before the last; the last one must have the outcome that the family promises. Gives the boards before the last entry.
-pub fn prepare(case: &Case) -> Boards {
+/// All entries before a last one, which must be accepted, a plan of them, and then the last one. Gives the boards before and after it, and its answer.
+fn prepared(entries: &[Entry], last: Entry) -> ([Boards; 2], Result<(), Refusal>) {
     let mut boards = Boards::empty();
-    for &entry in &case.entries {
+    for &entry in entries {
         boards.enter(entry).expect("only the last entry is refused");
     }
     boards.plan(BUDGET);
     let before = boards.clone();
-    let answer = boards.enter(case.last);
-    let inferences = boards.plain.inferences();
+    let answer = boards.enter(last);
+    ([before, boards], answer)
+}
+
+/// All entries of a case; the last one must have the outcome that the family promises. Gives the boards before the last entry.
+pub fn prepare(case: &Case) -> Boards {
+    let ([before, after], answer) = prepared(&case.entries, case.last);
+    let inferences = after.plain.inferences();
     let met = match case.outcome {
         Outcome::Accepted => answer.is_ok(),
         Outcome::RefusedLate => answer.is_err() && inferences >= before.plain.kept().jobs / 2,
@@ -91,5 +98,17 @@ pub fn prepare(case: &Case) -> Boards {
         "{}: {answer:?} after {inferences} inferences",
         case.outcome
     );
+    before
+}
+
+/// The same of a board that was found; its last entry must be accepted or refused as the name says.
+pub fn prepare_found(found: &Found) -> Boards {
+    let ([before, _], answer) = prepared(&found.entries, found.last);
+    let outcome = if answer.is_ok() {
+        "accepted"
+    } else {
+        "refused"
+    };
+    assert_eq!(outcome, found.outcome, "{}", found.name);
     before
 }

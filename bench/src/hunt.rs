@@ -12,9 +12,9 @@ mod trial;
 use crate::baseline;
 use crate::entry::Enters;
 use crate::loaded::{Library, Loaded};
-use crate::measure::{measure, Turns};
+use crate::measure::Turns;
 use crate::plain::Plain;
-use crate::works::Last;
+use crate::times::Times;
 use catch::Catch;
 use climb::Hunter;
 use std::time::Duration;
@@ -26,14 +26,12 @@ const TURNS: Turns = Turns {
     time: Duration::from_millis(200),
 };
 
-/// A catch measured as the families are: medians of the library, the baseline and the plain fixed point.
+/// A catch measured as the families are.
 struct Row {
     catch: Catch,
     /// What the plain fixed point infers from the last entry.
     inferences: usize,
-    library: f64,
-    baseline: f64,
-    plain: f64,
+    times: Times,
 }
 
 impl Row {
@@ -50,71 +48,67 @@ impl Row {
         let last = catch.draft.last;
         let mut entered = plain.clone();
         let _ = entered.enter(last);
-        let m = measure(
-            TURNS,
-            &mut [
-                &mut Last::new(loaded, last),
-                &mut Last::new(board, last),
-                &mut Last::new(plain, last),
-            ],
-        );
         Row {
             catch,
             inferences: entered.inferences(),
-            library: m[0].time.middle,
-            baseline: m[1].time.middle,
-            plain: m[2].time.middle,
+            times: Times::of(TURNS, loaded, board, plain, last),
         }
     }
 
     fn print(&self) {
         let [kind, outcome] = self.catch.name();
         println!(
-            "| {kind} | {outcome} | {} | {} | {:.2} | {:.2} | {:.2} | {:.2} | {:.2} |",
+            "| {kind} | {outcome} | {} | {} | {} |",
             self.catch.draft.jobs.len(),
             self.catch.draft.arcs.len(),
-            self.library,
-            self.baseline,
-            self.library / self.baseline,
-            self.plain,
-            self.library / self.plain,
+            self.times,
         );
+    }
+
+    /// Which one it is, what its last entry comes to, and the text.
+    fn print_text(&self, which: &str) {
+        let (before, after) = (&self.catch.ground.board, &self.catch.trial.after);
+        let arcs = |board: &baseline::Board| board.after.map(u64::count_ones).iter().sum::<u32>();
+        let moved = |job: &usize| {
+            before.earliest[*job] != after.earliest[*job]
+                || before.latest[*job] != after.latest[*job]
+        };
+        println!(
+            "\n{which}: {} of the jobs valid, {} invalid. The last entry moves {} windows, makes {} jobs invalid, and alters the number of arcs \
+             from {} to {}; the plain fixed point infers {}.\n",
+            before.valid.count_ones(),
+            before.invalid.count_ones(),
+            (0..before.jobs).filter(moved).count(),
+            (after.invalid & !before.invalid).count_ones(),
+            arcs(before),
+            arcs(after),
+            self.inferences,
+        );
+        print!("{}", self.catch.draft);
     }
 }
 
-/// What the last entry comes to.
-fn print_counts(row: &Row) {
-    let (before, after) = (&row.catch.ground.board, &row.catch.trial.after);
-    let arcs = |board: &baseline::Board| board.after.map(u64::count_ones).iter().sum::<u32>();
-    let moved = |job: &usize| {
-        before.earliest[*job] != after.earliest[*job] || before.latest[*job] != after.latest[*job]
-    };
-    println!(
-        "\nThe first of them: {} of the jobs valid, {} invalid. The last entry moves {} windows, makes {} jobs invalid, and alters the number \
-         of arcs from {} to {}; the plain fixed point infers {}.\n",
-        before.valid.count_ones(),
-        before.invalid.count_ones(),
-        (0..before.jobs).filter(moved).count(),
-        (after.invalid & !before.invalid).count_ones(),
-        arcs(before),
-        arcs(after),
-        row.inferences,
-    );
+/// The first row's text, and that of the first one that is refused: a text can repeat it, while an accepted entry is shown already when it comes again.
+fn print_texts(rows: &[Row]) {
+    if let Some(first) = rows.first() {
+        first.print_text("The first of them");
+    }
+    let refused = rows.iter().position(|row| !row.catch.trial.accepted);
+    if let Some(place @ 1..) = refused {
+        rows[place].print_text("The first that is refused, so that a text can repeat it");
+    }
 }
 
 fn print_goal(library: &'static Library, goal: Goal, time: Duration, seed: u64) {
     let worst = Hunter::new(library, goal, time, seed).hunt();
     let rows = worst.all().map(|catch| Row::of(library, catch));
     let mut rows: Vec<Row> = rows.collect();
-    let score = |row: &Row| goal.score(row.library, row.baseline);
+    let score = |row: &Row| goal.score(row.times.library, row.times.baseline);
     rows.sort_by(|a, b| score(b).total_cmp(&score(a)));
     println!("| last entry | outcome | jobs | arcs | library | baseline | ratio | plain | ratio |");
     println!("|---|---|---|---|---|---|---|---|---|");
     rows.iter().for_each(Row::print);
-    if let Some(worst) = rows.first() {
-        print_counts(worst);
-        println!("{}", worst.catch.draft);
-    }
+    print_texts(&rows);
 }
 
 /// Hunts in a shared object, half of the time for each goal.
@@ -123,6 +117,6 @@ pub fn print(path: &str, seconds: u64, seed: u64) {
     let time = Duration::from_secs(seconds) / 2;
     println!("The slowest entry, in microseconds:\n");
     print_goal(library, Goal::Time, time, seed);
-    println!("The entry with the greatest ratio to the baseline:\n");
+    println!("\nThe entry with the greatest ratio to the baseline:\n");
     print_goal(library, Goal::Ratio, time, seed);
 }

@@ -1,9 +1,11 @@
-//! The table of the families: microseconds of the last entry by the library on a checked board, by the baseline and by the plain
-//! fixed point, and which rows take longer than they should.
-use crate::compare::prepare;
-use crate::families::{Case, Family, Outcome, FAMILIES, OUTCOMES};
-use crate::measure::{measure, Turns};
-use crate::works::Last;
+//! The tables of the last entries, of the families and of the boards that the hunter found: microseconds by the library on a checked board,
+//! by the baseline and by the plain fixed point, and which rows take longer than they should.
+use crate::compare::{prepare, prepare_found, Boards};
+use crate::entry::Entry;
+use crate::families::{Case, FAMILIES, OUTCOMES};
+use crate::found;
+use crate::measure::Turns;
+use crate::times::Times;
 use crate::SIZES;
 use std::time::Duration;
 
@@ -13,64 +15,19 @@ const TURNS: Turns = Turns {
     time: Duration::from_millis(40),
 };
 
-/// Up to so many microseconds the library may always take.
-const FREE: f64 = 0.3;
-
-/// From so many jobs on a row may be slow; on smaller boards most of the time is the call itself.
-const LARGE: usize = 32;
-
-/// One case: microseconds of each implementation.
-struct Row {
-    manner: &'static str,
-    library: f64,
-    baseline: f64,
-    plain: f64,
+fn measured(before: Boards, last: Entry) -> Times {
+    Times::of(TURNS, before.dock, before.baseline, before.plain, last)
 }
 
-impl Row {
-    fn of(case: &Case) -> Row {
-        let before = prepare(case);
-        let m = measure(
-            TURNS,
-            &mut [
-                &mut Last::new(before.dock, case.last),
-                &mut Last::new(before.baseline, case.last),
-                &mut Last::new(before.plain, case.last),
-            ],
-        );
-        Row {
-            manner: case.manner,
-            library: m[0].time.middle,
-            baseline: m[1].time.middle,
-            plain: m[2].time.middle,
-        }
-    }
-
-    /// The library's time over what it may take.
-    fn share(&self) -> f64 {
-        self.library / self.baseline.min(self.plain).max(FREE)
-    }
-
-    fn is_slow(&self, jobs: usize) -> bool {
-        jobs >= LARGE && self.share() > 1.0
-    }
-
-    fn print(&self, family: &Family, outcome: Outcome, jobs: usize) {
-        println!(
-            "| {} | {outcome} | {jobs} | {} | {:.2} | {:.2} | {:.2} | {:.2} | {:.2} | {} |",
-            family.name,
-            self.manner,
-            self.library,
-            self.baseline,
-            self.library / self.baseline,
-            self.plain,
-            self.library / self.plain,
-            if self.is_slow(jobs) { "**slow**" } else { "" },
-        );
-    }
+/// Prints a row, with its first cells as given. Says whether it is slow.
+fn print_row(cells: &str, times: &Times, jobs: usize) -> bool {
+    let is_slow = times.is_slow(jobs);
+    let mark = if is_slow { "**slow**" } else { "" };
+    println!("| {cells} | {times} | {mark} |");
+    is_slow
 }
 
-pub fn print() {
+fn print_families() {
     println!("Microseconds of the last entry, in the manner in which the library takes longest beside the faster of the other two:\n");
     println!("| family | outcome | jobs | manner | library | baseline | ratio | plain | ratio | |");
     println!("|---|---|---|---|---|---|---|---|---|---|");
@@ -78,17 +35,37 @@ pub fn print() {
     for family in &FAMILIES {
         for outcome in OUTCOMES {
             for jobs in SIZES {
-                let rows = family.cases(jobs, outcome);
-                let worst = rows
-                    .iter()
-                    .map(Row::of)
-                    .max_by(|a, b| a.share().total_cmp(&b.share()));
-                if let Some(row) = worst {
-                    row.print(family, outcome, jobs);
-                    slow += usize::from(row.is_slow(jobs));
+                let cases = family.cases(jobs, outcome);
+                let times = |case: &Case| (case.manner, measured(prepare(case), case.last));
+                let rows = cases.iter().map(times);
+                let worst = rows.max_by(|(_, a), (_, b)| a.share().total_cmp(&b.share()));
+                if let Some((manner, times)) = worst {
+                    let cells = format!("{} | {outcome} | {jobs} | {manner}", family.name);
+                    slow += usize::from(print_row(&cells, &times, jobs));
                 }
             }
         }
     }
     println!("\nThe boards agree after each entry in every manner. Slow rows: {slow}.");
+}
+
+fn print_found() {
+    println!("Microseconds of the last entry of the boards that the hunter found:\n");
+    println!("| board | outcome | jobs | library | baseline | ratio | plain | ratio | |");
+    println!("|---|---|---|---|---|---|---|---|---|");
+    let mut slow = 0;
+    for found in found::all() {
+        let before = prepare_found(&found);
+        let jobs = before.baseline.jobs;
+        let cells = format!("{} | {} | {jobs}", found.name, found.outcome);
+        let times = measured(before, found.last);
+        slow += usize::from(print_row(&cells, &times, jobs));
+    }
+    println!("\nThe boards agree after each entry. Slow rows: {slow}.");
+}
+
+pub fn print() {
+    print_families();
+    println!();
+    print_found();
 }

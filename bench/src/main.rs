@@ -1,7 +1,8 @@
 //! The proved library against two independent boards, and against another library, each in one run.
 //!
-//! Without a word: the loads and the planner, against the baseline. `families`: the last entries of the families. `against BEFORE AFTER`:
-//! two libraries as shared objects, over the loads and the families. `hunt LIBRARY SECONDS SEED`: the slowest entries that random changes find.
+//! Without a word: the loads and the planner, against the baseline. `families`: the last entries of the families and of the boards that were found.
+//! `against BEFORE AFTER`: two libraries as shared objects, over the loads, the families and the boards that were found. `hunt LIBRARY SECONDS SEED`:
+//! the slowest entries that random changes find.
 //! Boards and answers are compared before anything is timed.
 mod against;
 mod baseline;
@@ -9,6 +10,7 @@ mod clock;
 mod compare;
 mod entry;
 mod families;
+mod found;
 mod hunt;
 mod last_entries;
 mod loaded;
@@ -17,6 +19,7 @@ mod measure;
 mod plain;
 mod planner;
 mod proved;
+mod times;
 mod typical;
 mod words;
 mod works;

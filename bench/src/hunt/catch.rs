@@ -1,10 +1,9 @@
 //! What was caught: drafts with their trials, and the worst of each class, which is a kind of entry with its outcome.
 use super::draft::Draft;
 use super::trial::{Goal, Ground, Trial};
-use crate::entry::Entry;
+use crate::entry::KINDS;
 
 /// The kinds of a last entry, each accepted or refused.
-const KINDS: [&str; 4] = ["addition", "arc", "mark", "cut"];
 pub const CLASSES: usize = 2 * KINDS.len();
 
 /// A draft that was tried.
@@ -17,19 +16,13 @@ pub struct Catch {
 
 impl Catch {
     pub fn class(&self) -> usize {
-        let kind = match self.draft.last {
-            Entry::Addition { .. } => 0,
-            Entry::Arc { .. } => 1,
-            Entry::Mark { .. } => 2,
-            Entry::Cut { .. } => 3,
-        };
-        2 * kind + usize::from(self.trial.accepted)
+        2 * self.draft.last.kind() + usize::from(self.trial.accepted)
     }
 
     /// The last entry's kind, and its outcome.
     pub fn name(&self) -> [&'static str; 2] {
         let outcome = ["refused", "accepted"][usize::from(self.trial.accepted)];
-        [KINDS[self.class() / 2], outcome]
+        [KINDS[self.draft.last.kind()], outcome]
     }
 }
 

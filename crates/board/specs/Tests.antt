@@ -1,7 +1,8 @@
--- Boolean tests of a board, and what they decide.
+-- Boolean tests of a board, and what they decide; sets of jobs.
 pub mod Live
 pub mod Decides
 pub mod Limits
 pub mod LimitsDecided
 pub mod Empty
 pub mod Ranges
+pub mod Sets

@@ -7,6 +7,7 @@ pub mod Limits
 pub mod Order
 pub mod Rows
 pub mod Updated
+pub mod Reaches
 pub mod Appended
 pub mod Filled
 pub mod Places

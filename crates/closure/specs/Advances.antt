@@ -22,9 +22,9 @@ use Rattle.board.specs.Tests.Live.{live-yes, valid-yes, valid-show}
 use Rattle.board.specs.Update.Filled.{filled, possibly, ArraysWithin}
 use Rattle.board.specs.Update.Strike.{strike}
 use Rattle.board.specs.Update.StrikeLaws.{strike-member, strike-other}
+use Rattle.board.specs.Update.Reaches.{Reached, Reaches, reached-self}
 use Rattle.limits.specs.Marked.{marked, unmarked, bit-live, bit-valid}
-use Rattle.propagation.specs.Reaches.{Reached, Reaches, reached-self}
-use Rattle.propagation.specs.Gone.{AllGone, gone-valid, struck-all}
+use Rattle.exclusion.specs.Gone.{AllGone, gone-valid, struck-all}
 use Rattle.propagation.specs.Turns.{Turns, Onward, Shut}
 
 -- ---- the words of live and of valid jobs, where some are struck out

@@ -17,10 +17,10 @@ use Rattle.board.specs.Paper.Entries.{shown}
 use Rattle.board.specs.Paper.Closed.{Closed, Least}
 use Rattle.board.specs.Order.Leastness.{handed-in}
 use Rattle.board.specs.Inference.Agrees.{obeys-rules, rules-obey}
+use Rattle.board.specs.Update.Reaches.{reached-self}
 use Rattle.closure.specs.Find.{find}
 use Rattle.closure.specs.FindSound.{find-sound}
 use Rattle.closure.specs.FindComplete.{find-complete}
-use Rattle.propagation.specs.Reaches.{reached-self}
 use Rattle.closure.specs.Closing.{closure}
 use Rattle.closure.specs.Closes.{lengths}
 use Rattle.closure.specs.Stepping.{reached-closure}

@@ -17,8 +17,8 @@ use Rattle.board.specs.Update.Extension.{above-self, Extends}
 use Rattle.board.specs.Update.Compose.{extends-then, one-outcome}
 use Rattle.board.specs.Update.Updates.{update, _andThen_}
 use Rattle.board.specs.Update.Updated.{updated}
+use Rattle.board.specs.Update.Reaches.{infers-known}
 use Rattle.closure.specs.Find.{find}
-use Rattle.propagation.specs.Reaches.{infers-known}
 use Rattle.closure.specs.FindSound.{find-sound}
 use Rattle.closure.specs.FindComplete.{find-complete}
 use Rattle.closure.specs.Measure.{measure, measure-falls, measure-bound}

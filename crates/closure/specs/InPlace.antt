@@ -15,11 +15,11 @@ use Rattle.board.specs.Paper.Values.{factOf}
 use Rattle.board.specs.Inference.Infers.{Infers, Obeys}
 use Rattle.board.specs.Update.Filled.{filled, arrayed, ArraysWithin, possibly, Alters}
 use Rattle.board.specs.Update.Updates.{update}
+use Rattle.board.specs.Update.Reaches.{Reaches, reached-self, reaches-then, infers-known}
 use Rattle.updates.specs.Applicable.{Timely}
 use Rattle.limits.specs.Marked.{marked, unmarked}
 use Rattle.rules.specs.Searched.{Searched}
 use Rattle.search.specs.PairsWalk.{ReadSearched}
-use Rattle.propagation.specs.Reaches.{Reaches, reached-self, reaches-then, infers-known}
 use Rattle.closure.specs.Advances.{Advances}
 use Rattle.closure.specs.Closing.{closure}
 use Rattle.closure.specs.Due.{known-more}
@@ -29,7 +29,7 @@ use Rattle.closure.specs.Timely.{timely}
 use Rattle.closure.specs.Stepping.{reaches-closure, reached-closure, reached-next, reached-none}
 
 -- what holds of every board of n jobs within its limits with these arrays
-abbrev pub OnArrays : (Board → Type 0) → ℕ → List ℤ → List ℤ → List ℤ → List ℕ → List ℕ → List ℕ → Type 0
+abbrev OnArrays : (Board → Type 0) → ℕ → List ℤ → List ℤ → List ℤ → List ℕ → List ℕ → List ℕ → Type 0
 OnArrays P n lengths earliest latest marks after before =
     (b : Board) → b .jobs ≡ n → Within (filled b lengths earliest latest marks after before) → P (filled b lengths earliest latest marks after before)
 

@@ -10,7 +10,7 @@ use Rattle.board.specs.Inference.Infers.{Infers, Obeys}
 use Rattle.board.specs.Update.Extension.{Updated}
 use Rattle.board.specs.Update.Updates.{update}
 use Rattle.board.specs.Update.Updated.{updated}
-use Rattle.propagation.specs.Reaches.{infers-known, Reaches, Reached, further}
+use Rattle.board.specs.Update.Reaches.{infers-known, Reaches, Reached, further}
 use Rattle.closure.specs.Measure.{measure, measure-falls}
 use Rattle.closure.specs.Closing.{closure}
 use Rattle.closure.specs.Closes.{ClosedTo, closure-is}

@@ -25,11 +25,11 @@ fn moved<'a>(
     match side {
         Side::Early => {
             due.raised = it;
-            due.early = if pushes { after[job] } else { 0 };
+            due.after_raised = if pushes { after[job] } else { 0 };
         }
         Side::Late => {
             due.lowered = it;
-            due.late = if pushes { before[job] } else { 0 };
+            due.before_lowered = if pushes { before[job] } else { 0 };
         }
     }
     due
@@ -42,13 +42,13 @@ fn joined(from: usize, to: usize, marks: &[u8; Board::JOBS]) -> Agenda
     let mut due = nothing();
     if marks[from] == Board::VALID {
         due.early = words::with(0, to);
-        due.joins = words::with(0, from);
+        due.through = words::with(0, from);
     }
     if marks[to] == Board::VALID {
         due.late = words::with(0, from);
-        due.joins = words::with(due.joins, to);
+        due.through = words::with(due.through, to);
     }
-    due.ends = due.joins;
+    due.crossed = due.through;
     due
 }
 
@@ -64,8 +64,8 @@ fn validated<'a>(
     let mut due = nothing();
     due.early = after[job];
     due.late = before[job];
-    due.joins = it;
-    due.ends = it;
+    due.through = it;
+    due.crossed = it;
     due
 }
 
@@ -101,9 +101,12 @@ pub fn both(some: Agenda, others: Agenda) -> Agenda {
     Agenda {
         early: words::union(some.early, others.early),
         late: words::union(some.late, others.late),
+        after_raised: words::union(some.after_raised, others.after_raised),
+        before_lowered: words::union(some.before_lowered, others.before_lowered),
         raised: words::union(some.raised, others.raised),
         lowered: words::union(some.lowered, others.lowered),
-        joins: words::union(some.joins, others.joins),
-        ends: words::union(some.ends, others.ends),
+        through: words::union(some.through, others.through),
+        crossed: words::union(some.crossed, others.crossed),
+        late_next: false,
     }
 }

@@ -2,6 +2,7 @@
 use mathlib.Core.Bool.{true, false}
 use Prim.Native.Nat.{ℕ}
 use lib.IntN.{pos}
+use Rattle.board.specs.declared.Board.{Board}
 use Rattle.board.specs.Paper.Refusals.{numberOf}
 use Rattle.entries.specs.declared.Answer.{Answer}
 use Rattle.entries.specs.declared.Answer.the-variants as Answers
@@ -14,7 +15,6 @@ use Rattle.tries.specs.declared.PlanAnswer.{PlanAnswer}
 use Rattle.tries.specs.declared.PlanAnswer.the-variants as Plans
 use Rattle.tries.specs.declared.Planned.{Planned}
 use Rattle.exports.specs.declared.replies.Reply.{Reply}
-use Rattle.exports.specs.declared.replies.Replied.{Replied}
 use Rattle.exports.specs.declared.replies.RowReply.{RowReply}
 use Rattle.exports.specs.declared.replies.PairReply.{PairReply}
 use Rattle.exports.specs.declared.replies.PlanReply.{PlanReply}
@@ -26,6 +26,10 @@ entryReply Answers.Accepted = record { accepted = true; number = 0 }
 entryReply (Answers.Refused r) = record { accepted = false; number = numberOf r }
 
 -- the same with the board after the entry
+pub record Replied : Type 0 where
+  pub reply : Reply
+  pub board : Board
+
 abbrev pub replied : Entered → Replied
 replied e = record { reply = entryReply (e .answer); board = e .board }
 

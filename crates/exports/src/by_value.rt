@@ -1,49 +1,21 @@
 // The calls by value with their replies in numbers; check 0 is among their checks.
 use crate::replies::PairReply;
 use crate::replies::PlanReply;
-use crate::replies::Replied;
 use crate::replies::RowReply;
 use crate::replies::pair_reply;
 use crate::replies::plan_reply;
-use crate::replies::reply_and_board;
 use crate::replies::row_reply;
 use dock::Dock;
 ghost use mathlib.Core.Path.{_≡_};
 ghost use Rattle.closure.specs.Check as check;
-ghost use Rattle.entries.specs.Paper.Entry as entry;
-ghost use Rattle.entries.specs.Paper.Enter as paper;
 ghost use Rattle.entries.specs.Paper.Looking as looking;
 ghost use Rattle.tries.specs.Paper.Planner as planning;
-ghost use Rattle.exports.specs.Replies.{replied, rowReply, pairReply, planReply};
+ghost use Rattle.exports.specs.Replies.{rowReply, pairReply, planReply};
 
 pub fn passes(dock: Dock) -> bool
     ensures { λ r. ⌜ r ≡ check.passes (dock .board) ⌝ }
 {
     closure::check::passes(dock.board)
-}
-
-pub fn addition(dock: Dock, length: i32, earliest: i32, latest: i32, mark: i32) -> Replied
-    ensures { λ r. ⌜ r ≡ replied (paper.enter (dock .board) (entry.addition length earliest latest mark)) ⌝ }
-{
-    reply_and_board(dock.addition(length, earliest, latest, mark))
-}
-
-pub fn arc(dock: Dock, from: i32, to: i32) -> Replied
-    ensures { λ r. ⌜ r ≡ replied (paper.enter (dock .board) (entry.other (entry.arc from to))) ⌝ }
-{
-    reply_and_board(dock.arc(from, to))
-}
-
-pub fn mark(dock: Dock, job: i32, mark: i32) -> Replied
-    ensures { λ r. ⌜ r ≡ replied (paper.enter (dock .board) (entry.other (entry.mark job mark))) ⌝ }
-{
-    reply_and_board(dock.mark(job, mark))
-}
-
-pub fn cut(dock: Dock, job: i32, earliest: i32, latest: i32) -> Replied
-    ensures { λ r. ⌜ r ≡ replied (paper.enter (dock .board) (entry.other (entry.cut job earliest latest))) ⌝ }
-{
-    reply_and_board(dock.cut(job, earliest, latest))
 }
 
 pub fn row(dock: Dock, job: i32) -> RowReply

@@ -4,6 +4,7 @@ use crate::replies::PairReply;
 use crate::replies::PlanReply;
 use crate::replies::Reply;
 use crate::replies::RowReply;
+use crate::replies::entry_reply;
 use board::Board;
 use dock::Dock;
 ghost use mathlib.Core.Path.{_≡_};
@@ -47,10 +48,7 @@ pub extern "C" fn bayboard_addition(
 ) -> Reply
     ensures { λ r. ⌜ record { reply = r; board = now (board .exit) } ≡ replied (paper.enter (now (board .entry)) (entry.addition length earliest latest mark)) ⌝ }
 {
-    let dock = Dock { board: *board };
-    let replied = by_value::addition(dock, length, earliest, latest, mark);
-    *board = replied.board;
-    replied.reply
+    entry_reply(host::addition(board, length, earliest, latest, mark))
 }
 
 // "Arc A to B: if both take place, A ends no later than B starts."
@@ -58,10 +56,7 @@ pub extern "C" fn bayboard_addition(
 pub extern "C" fn bayboard_arc(board: &mut Board, from: i32, to: i32) -> Reply
     ensures { λ r. ⌜ record { reply = r; board = now (board .exit) } ≡ replied (paper.enter (now (board .entry)) (entry.other (entry.arc from to))) ⌝ }
 {
-    let dock = Dock { board: *board };
-    let replied = by_value::arc(dock, from, to);
-    *board = replied.board;
-    replied.reply
+    entry_reply(host::arc(board, from, to))
 }
 
 // "Mark a job 1 or 2."
@@ -69,10 +64,7 @@ pub extern "C" fn bayboard_arc(board: &mut Board, from: i32, to: i32) -> Reply
 pub extern "C" fn bayboard_mark(board: &mut Board, job: i32, mark: i32) -> Reply
     ensures { λ r. ⌜ record { reply = r; board = now (board .exit) } ≡ replied (paper.enter (now (board .entry)) (entry.other (entry.mark job mark))) ⌝ }
 {
-    let dock = Dock { board: *board };
-    let replied = by_value::mark(dock, job, mark);
-    *board = replied.board;
-    replied.reply
+    entry_reply(host::mark(board, job, mark))
 }
 
 // "Cut a job with a window E, D: the later E and the earlier D hold."
@@ -80,10 +72,7 @@ pub extern "C" fn bayboard_mark(board: &mut Board, job: i32, mark: i32) -> Reply
 pub extern "C" fn bayboard_cut(board: &mut Board, job: i32, earliest: i32, latest: i32) -> Reply
     ensures { λ r. ⌜ record { reply = r; board = now (board .exit) } ≡ replied (paper.enter (now (board .entry)) (entry.other (entry.cut job earliest latest))) ⌝ }
 {
-    let dock = Dock { board: *board };
-    let replied = by_value::cut(dock, job, earliest, latest);
-    *board = replied.board;
-    replied.reply
+    entry_reply(host::cut(board, job, earliest, latest))
 }
 
 // "Row of a job: mark, E, D, the set before it and the set after it."

@@ -1,7 +1,6 @@
 // The answers as structs of numbers, since an enum can't be exported; and the answers by value made into them.
 use board::Board;
 use entries::Answer;
-use entries::Entered;
 use entries::PairAnswer;
 use entries::RowAnswer;
 use tries::PlanAnswer;
@@ -14,12 +13,6 @@ ghost use Rattle.exports.specs.Replies as said;
 pub struct Reply {
     pub accepted: bool,
     pub number: u64,
-}
-
-// The reply and the board after the entry.
-pub struct Replied {
-    pub reply: Reply,
-    pub board: Board,
 }
 
 // To a row: where it is not accepted, the refusal's number, and 0 in the rest.
@@ -53,7 +46,7 @@ pub struct PlanReply {
     pub starts: [i32; Board::JOBS],
 }
 
-fn entry_reply(answer: Answer) -> Reply
+pub fn entry_reply(answer: Answer) -> Reply
     ensures { λ r. ⌜ r ≡ said.entryReply answer ⌝ }
 {
     match answer {
@@ -69,17 +62,6 @@ fn entry_reply(answer: Answer) -> Reply
             accepted: false,
             number: refusal.number() as u64,
         },
-    }
-}
-
-pub fn reply_and_board(entered: Entered) -> Replied
-    ensures { λ r. ⌜ r ≡ said.replied entered ⌝ }
-{
-    let answer = entered.answer;
-    let board = entered.board;
-    Replied {
-        reply: entry_reply(answer),
-        board,
     }
 }
 

@@ -4,6 +4,7 @@ use crate::replies::PairReply;
 use crate::replies::PlanReply;
 use crate::replies::Reply;
 use crate::replies::RowReply;
+use crate::replies::entry_reply;
 use board::Board;
 use dock::Dock;
 ghost use mathlib.Core.Path.{_≡_};
@@ -29,10 +30,9 @@ pub extern "C" fn bayboard_unchecked_addition(
     requires { ⌜ passes (now board) ≡ true ⌝ }
     ensures { λ r. ⌜ record { reply = r; board = now (board .exit) } ≡ replied (paper.enter (now (board .entry)) (entry.addition length earliest latest mark)) ⌝ }
 {
-    let dock = Dock { board: *board };
-    let replied = by_value::addition(dock, length, earliest, latest, mark);
-    *board = replied.board;
-    replied.reply
+    let entered = calls::addition(*board, length, earliest, latest, mark);
+    *board = entered.board;
+    entry_reply(entered.answer)
 }
 
 // "Arc A to B: if both take place, A ends no later than B starts."
@@ -41,10 +41,9 @@ pub extern "C" fn bayboard_unchecked_arc(board: &mut Board, from: i32, to: i32) 
     requires { ⌜ passes (now board) ≡ true ⌝ }
     ensures { λ r. ⌜ record { reply = r; board = now (board .exit) } ≡ replied (paper.enter (now (board .entry)) (entry.other (entry.arc from to))) ⌝ }
 {
-    let dock = Dock { board: *board };
-    let replied = by_value::arc(dock, from, to);
-    *board = replied.board;
-    replied.reply
+    let entered = calls::arc(*board, from, to);
+    *board = entered.board;
+    entry_reply(entered.answer)
 }
 
 // "Mark a job 1 or 2."
@@ -53,10 +52,9 @@ pub extern "C" fn bayboard_unchecked_mark(board: &mut Board, job: i32, mark: i32
     requires { ⌜ passes (now board) ≡ true ⌝ }
     ensures { λ r. ⌜ record { reply = r; board = now (board .exit) } ≡ replied (paper.enter (now (board .entry)) (entry.other (entry.mark job mark))) ⌝ }
 {
-    let dock = Dock { board: *board };
-    let replied = by_value::mark(dock, job, mark);
-    *board = replied.board;
-    replied.reply
+    let entered = calls::mark(*board, job, mark);
+    *board = entered.board;
+    entry_reply(entered.answer)
 }
 
 // "Cut a job with a window E, D: the later E and the earlier D hold."
@@ -70,10 +68,9 @@ pub extern "C" fn bayboard_unchecked_cut(
     requires { ⌜ passes (now board) ≡ true ⌝ }
     ensures { λ r. ⌜ record { reply = r; board = now (board .exit) } ≡ replied (paper.enter (now (board .entry)) (entry.other (entry.cut job earliest latest))) ⌝ }
 {
-    let dock = Dock { board: *board };
-    let replied = by_value::cut(dock, job, earliest, latest);
-    *board = replied.board;
-    replied.reply
+    let entered = calls::cut(*board, job, earliest, latest);
+    *board = entered.board;
+    entry_reply(entered.answer)
 }
 
 // "Row of a job: mark, E, D, the set before it and the set after it."

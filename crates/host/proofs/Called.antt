@@ -1,5 +1,5 @@
--- The call by value that each call on the host's own board makes: of a dock that holds a copy of the board, with n numbers.
--- It may ask a fact of the board, and ensures Q of the board, the numbers and what it gives.
+-- The calls by value that each call on the host's own board makes, as a step of a walk: of one value, as a dock that holds a
+-- copy of the board, and n numbers. Such a call may ask P of the value, and ensures Q of the value, the numbers and what it gives.
 -- Assumes nothing.
 use mathlib.Core.List.{List, [], _∷_}
 use Prim.Native.Nat.{ℕ}
@@ -17,7 +17,7 @@ use types.Kit.{_$_, _∵_, !, qed, move, drop, use0, use1, split, pick, fjoin, a
 use types.Run.{Opds}
 use sound.WpLaws.{FmC}
 use denote.RattleType.{RattleType, owns}
-use denote.Laws.{Is, Shows, shows}
+use denote.Laws.{Is, Makes, Shows, shows}
 use denote.Memory.{cellAt}
 use denote.Signature.{plain}
 use denote.Steps.{owned, peeks, heard, nothing}
@@ -84,58 +84,84 @@ states {𝓤 = 𝓤} t {P} {S} h =
       prf = via 𝓤 P (s .prf) (via 𝓤 (sep 𝓤 (emp 𝓤) P) (emp∗ 𝓤 P) (via 𝓤 (sep 𝓤 S P) (monoL 𝓤 P h) (comm∗ 𝓤 S P)));
     })
 
--- R is the type of what the call gives
-module _ (n : ℕ) (R : RattleType) where
+-- T is the type of the value, and R of what the call gives
+module _ (n : ℕ) (T R : RattleType) where
   abbrev by-value : Ended
   by-value = record {
     signature = record {
       lifetimes = 0;
       outlives = [];
-      params = plain (λ κs. D.the-row) ∷ slots 0 n;
+      params = plain (λ κs. T) ∷ slots 0 n;
       result = plain (λ κs. R);
     };
     kept = (yes, kept 0 n);
   }
 
-  module _ (asks : Asks) (Q : Board → Numbers n → R .Denot → Type 0) {M : Type 1} (𝓤 : URA M) where
+  module _ {M : Type 1} (𝓤 : URA M) (P : T .Denot → SProp 𝓤) (Q : T .Denot → Numbers n → R .Denot → Type 0) where
     abbrev ensures : Clauses 𝓤 by-value
     ensures κs a = record {
       ghost = Unit {0};
-      requires = λ g. asked.clause 𝓤 asks (a .0 .board);
-      ensures = λ g r end. fact 𝓤 (Q (a .0 .board) (a .1) r);
+      requires = λ g. P (a .0);
+      ensures = λ g r end. fact 𝓤 (Q (a .0) (a .1) r);
     }
 
     module _ (H : Heap 𝓤) (A : Atoms 𝓤) where
       abbrev pub ByValue : Contract 𝓤
       ByValue = tripleOf 𝓤 H A (by-value .signature) (closing 𝓤 H A by-value ensures)
 
-      module _ (h : Board) (zs : Numbers n) where
+      -- the value, its machine value and the numbers
+      module _ (x : T .Denot) (u : Val) (zs : Numbers n) where
         abbrev pub arguments : ByValue .Ghost
-        arguments = ((tt, tt, tt, (holding h, zs), (dock-val h ∷ [], given 0 tt n zs)), tt)
+        arguments = ((tt, tt, tt, (x, zs), (u ∷ [], given 0 tt n zs)), tt)
 
-        met : Given 𝓤 H A → Holds asks h → IsBoard h → Fit 0 tt n zs → ent 𝓤 (emp 𝓤) (ByValue .pre arguments)
-        met W holds is fits =
-            qed W [] ∵ states ! (asked.said 𝓤 asks h holds) $ nothing ! $
+        met : Given 𝓤 H A → Makes 𝓤 H A T (Is T) → ent 𝓤 (emp 𝓤) (P x) → Is T x (u ∷ []) → Fit 0 tt n zs
+            → ent 𝓤 (emp 𝓤) (ByValue .pre arguments)
+        met W makes holds is fits =
+            qed W [] ∵ states ! holds $ nothing ! $
             use0 W (‵ (owns (rows 0 tt n) zs (given 0 tt n zs))) (own-numbers 𝓤 H A W 0 tt n zs fits) $
-            owned ! D.the-row (Is D.the-row) (LL.makes D.the-type D′.the-plain 𝓤 H A) (holding h) _ (is-dock h is) $
-            fjoin ! $ move ! (1 ∷ 0 ∷ []) $ done !
+            owned ! T (Is T) makes x _ is $ fjoin ! $ move ! (1 ∷ 0 ∷ []) $ done !
 
         abbrev Said : R .Denot → SProp 𝓤
-        Said r = ensured 𝓤 H A by-value ensures tt (holding h, zs) tt r
+        Said r = ensured 𝓤 H A by-value ensures tt (x, zs) tt r
 
-        said : (r : R .Denot) → ent 𝓤 (Said r) (fact 𝓤 (Q h zs r))
-        said r = exE 𝓤 _ (λ ws. snd∗ 𝓤 (sem 𝓤 H A (lasts by-value tt (holding h, zs) ws)) (fact 𝓤 (Q h zs r)))
+        said : (r : R .Denot) → ent 𝓤 (Said r) (fact 𝓤 (Q x zs r))
+        said r = exE 𝓤 _ (λ ws. snd∗ 𝓤 (sem 𝓤 H A (lasts by-value tt (x, zs) ws)) (fact 𝓤 (Q x zs r)))
 
         -- the call as a step of a walk: what it gives is at the head of the context, to be stored
         pub calls : {K : Type 0} {W : Given 𝓤 H A} {Γ : List (Item 𝓤)} {C : Calls 𝓤 H} {Λ : Loops 𝓤 H} {E : Env 𝓤 H}
             {q : Post 𝓤 H} {callee : Name} {xs : List Operand} {d : Place} {rest : Body}
-            → K → FmC 𝓤 H (W .laws) C → Triple 𝓤 (C callee) ByValue → Holds asks h → IsBoard h → Fit 0 tt n zs
+            → K → FmC 𝓤 H (W .laws) C → Triple 𝓤 (C callee) ByValue → Makes 𝓤 H A T (Is T) → ent 𝓤 (emp 𝓤) (P x)
+            → Is T x (u ∷ []) → Fit 0 tt n zs
             → Opds K W (raw (ByValue .pre arguments) ∷ Γ) E xs (ByValue .args arguments)
-            → ((r : R .Denot) (v : Val) → Q h zs r → Is R r (v ∷ [])
+            → ((r : R .Denot) (v : Val) → Q x zs r → Is R r (v ∷ [])
             → Seq K W (‵ (R .own r (v ∷ [])) ∷ Γ) (lands C Λ E d v rest q))
             → Seq K W Γ (runs C Λ E (seq (call callee xs d) rest) q)
-        calls {W = W} t fm known holds is fits os k =
-            use0 W (raw (ByValue .pre arguments)) (met W holds is fits) $ calls-at t fm ByValue known arguments os (λ v.
+        calls {W = W} t fm known makes holds is fits os k =
+            use0 W (raw (ByValue .pre arguments)) (met W makes holds is fits) $ calls-at t fm ByValue known arguments os (λ v.
             use1 W (later (some (λ (r : R .Denot). (‵ ftrue ⊛ ‵ (R .own r (v ∷ []))) ⊛ raw (Said r)))) (id⊢ 𝓤 _) $
-            await t tt $ pick t (λ r. split t $ move t (1 ∷ []) $ use1 W (raw (fact 𝓤 (Q h zs r))) (said r) $
-            heard t (Q h zs r) (λ e. split t $ drop t $ peeks t R (Is R) (shows 𝓤 H A R) r (v ∷ []) (λ made. k r v e made))))
+            await t tt $ pick t (λ r. split t $ move t (1 ∷ []) $ use1 W (raw (fact 𝓤 (Q x zs r))) (said r) $
+            heard t (Q x zs r) (λ e. split t $ drop t $ peeks t R (Is R) (shows 𝓤 H A R) r (v ∷ []) (λ made. k r v e made))))
+
+-- a call of a dock, which may ask a fact of its board
+module _ (n : ℕ) (R : RattleType) (asks : Asks) (Q : Board → Numbers n → R .Denot → Type 0) {M : Type 1} (𝓤 : URA M) where
+  abbrev Asked : Dock → SProp 𝓤
+  Asked d = asked.clause 𝓤 asks (d .board)
+
+  abbrev Ensured : Dock → Numbers n → R .Denot → Type 0
+  Ensured d = Q (d .board)
+
+  module _ (H : Heap 𝓤) (A : Atoms 𝓤) where
+    abbrev pub OfDock : Contract 𝓤
+    OfDock = ByValue n D.the-row R 𝓤 Asked Ensured H A
+
+    pub dock-calls : {K : Type 0} {W : Given 𝓤 H A} {Γ : List (Item 𝓤)} {C : Calls 𝓤 H} {Λ : Loops 𝓤 H} {E : Env 𝓤 H}
+        {q : Post 𝓤 H} {callee : Name} {xs : List Operand} {d : Place} {rest : Body} (h : Board) (zs : Numbers n)
+        → K → FmC 𝓤 H (W .laws) C → Triple 𝓤 (C callee) OfDock → Holds asks h → IsBoard h → Fit 0 tt n zs
+        → Opds K W (raw (OfDock .pre (arguments n D.the-row R 𝓤 Asked Ensured H A (holding h) (dock-val h) zs)) ∷ Γ) E xs
+        (OfDock .args (arguments n D.the-row R 𝓤 Asked Ensured H A (holding h) (dock-val h) zs))
+        → ((r : R .Denot) (v : Val) → Q h zs r → Is R r (v ∷ [])
+        → Seq K W (‵ (R .own r (v ∷ [])) ∷ Γ) (lands C Λ E d v rest q))
+        → Seq K W Γ (runs C Λ E (seq (call callee xs d) rest) q)
+    dock-calls h zs t fm known holds is =
+        calls n D.the-row R 𝓤 Asked Ensured H A (holding h) (dock-val h) zs t fm known
+        (LL.makes D.the-type D′.the-plain 𝓤 H A) (asked.said 𝓤 asks h holds) (is-dock h is)

@@ -1,6 +1,7 @@
 -- The laws of the calls on a board by reference: one for those that alter it, one for those that look at it.
 pub mod Altered
 pub mod Asked
+pub mod ByReference
 pub mod Called
 pub mod Handed
 pub mod Looked

@@ -46,7 +46,7 @@ use Rattle.board.proofs.Board as B
 use Rattle.board.proofs.Board.Laws as B′
 use Rattle.dock.proofs.Dock.Laws as D′
 use Rattle.host.proofs.Asked.{Asks, Holds, clause, learned}
-use Rattle.host.proofs.Called.{board-val, board-typed, dock-typed, spelled, states, ByValue, calls}
+use Rattle.host.proofs.Called.{board-val, board-typed, dock-typed, spelled, states, OfDock, dock-calls}
 use Rattle.host.proofs.Numbers.{slots, rows, kept, Numbers, numbers, spells, told, given, Fit, fit}
 use Rattle.host.proofs.Numbers.{dropped, unsaid, unasked, Had, had, gone}
 use Rattle.host.proofs.Numbers.{locals, past, copies, other, alloc-numbers, pass-numbers, free-numbers, look-numbers}
@@ -141,7 +141,7 @@ module _ (n : ℕ) (R : RattleType) (lowers : Lowered R) where
             use0 W (‵ (Had 1 (κ, tt) n a)) (had 1 𝓤 H A (κ, tt) n a) $ move ! (1 ∷ 0 ∷ []) $ fjoin ! $ frame ! $ done !
 
         module _ (C : Calls 𝓤 H) (Λ : Loops 𝓤 H) (fm : FmC 𝓤 H (W .laws) C) (callee : Name)
-            (known : Triple 𝓤 (C callee) (ByValue n R asks Q 𝓤 H A)) where
+            (known : Triple 𝓤 (C callee) (OfDock n R asks Q 𝓤 H A)) where
           walk : ent 𝓤 (onEntry 𝓤 H A (by-reference .signature) (κ, tt) (q, tt) (y .0 .3) (y .0 .4))
               (WpFn 𝓤 H C Λ (function callee) args Post)
           walk =
@@ -162,7 +162,7 @@ module _ (n : ℕ) (R : RattleType) (lowers : Lowered R) where
               shuts ! tt B.the-row q′ h (board-val h ∷ []) b o $
               assigns ! (agg ! (and-then ! (load ! (other ! n bs _ 1 (stop !)) (look ! 3 refl)) (no-more !)))
               (other ! n bs _ 0 (stop !)) (init ! 5 refl (dock-typed W h is)) $
-              calls n R asks Q 𝓤 H A h zs ! fm known holds is (fit 1 (κ, tt) n a fits)
+              dock-calls n R asks Q 𝓤 H A h zs ! fm known holds is (fit 1 (κ, tt) n a fits)
               (and-then ! (load ! (other ! n bs _ 0 (stop !)) (look ! 6 refl)) (look-numbers ! 3 n bs zs _ refl))
               (λ r v e made. land ! (from ! (stop !)) (init ! 10 refl (typed r v made)) $
               -- [what the answer owns; the token; the fractured borrow; the numbers; the board; …; the dock; …; _1; …; _0; …;
@@ -173,7 +173,7 @@ module _ (n : ℕ) (R : RattleType) (lowers : Lowered R) where
               keep ! (0 ∷ 1 ∷ 2 ∷ 3 ∷ []) $ by ! (exits r v e)))))))))
 
       meets : Given 𝓤 H A → Lawful 𝓤 H A R → Follows → (𝓣 : Tables 𝓤 H) (callee : Name)
-          → Triple 𝓤 (𝓣 .C callee) (ByValue n R asks Q 𝓤 H A) → Looks (WpFn 𝓤 H (𝓣 .C) (𝓣 .Λ) (function callee))
+          → Triple 𝓤 (𝓣 .C callee) (OfDock n R asks Q 𝓤 H A) → Looks (WpFn 𝓤 H (𝓣 .C) (𝓣 .Λ) (function callee))
       meets W lawful follows 𝓣 callee known =
           let run : Fun 𝓤 = WpFn 𝓤 H (𝓣 .C) (𝓣 .Λ) (function callee) in
           walk-meets 𝓤 H A by-reference stayed W
@@ -191,11 +191,11 @@ module _ (n : ℕ) (R : RattleType) (lowers : Lowered R) where
     pub law : (Given 𝓤 H (𝓖 .A) → Lawful 𝓤 H (𝓖 .A) R) → (S : Says 𝓤) → Follows asks Q 𝓤 S
         → (env : Env) (name callee : Name) (routine : Routine)
         → Closed 𝓤 H (tables 𝓤 H 𝓜 𝓡 env .C) (tables 𝓤 H 𝓜 𝓡 env .Λ) name (function callee) → env callee ≡ routine
-        → Triple 𝓤 (𝓡 .run routine) (ByValue n R asks Q 𝓤 H (𝓖 .A)) → Looks asks Q 𝓤 S H (𝓖 .A) (𝓡 .run (env name))
+        → Triple 𝓤 (𝓡 .run routine) (OfDock n R asks Q 𝓤 H (𝓖 .A)) → Looks asks Q 𝓤 S H (𝓖 .A) (𝓡 .run (env name))
     unfolding tablesOf
     law lawful S follows env name callee routine closed calls met =
         let W : Given 𝓤 H (𝓖 .A) = givenOf 𝓤 H 𝓜 𝓖 in
         entered 𝓤 H (tripleOf 𝓤 H (𝓖 .A) (by-reference .signature) (closing 𝓤 H (𝓖 .A) by-reference (looked asks Q 𝓤 S)))
         (tables 𝓤 H 𝓜 𝓡 env .C) (tables 𝓤 H 𝓜 𝓡 env .Λ) name (function callee) closed
         (meets asks Q 𝓤 S H (𝓖 .A) W (lawful W) follows (tablesOf 𝓤 H 𝓜 (tables 𝓤 H 𝓜 𝓡 env)) callee
-        (cited 𝓤 H (ByValue n R asks Q 𝓤 H (𝓖 .A)) 𝓜 𝓡 env callee routine calls met))
+        (cited 𝓤 H (OfDock n R asks Q 𝓤 H (𝓖 .A)) 𝓜 𝓡 env callee routine calls met))

@@ -11,12 +11,14 @@ use Rattle.minutes.specs.Bools.{and-parts}
 use Rattle.board.specs.declared.Board.{Board}
 use Rattle.board.specs.Paper.View.{Live, Valid, early, late, view}
 use Rattle.board.specs.Paper.Limits.{jobLimit}
-use Rattle.propagation.specs.Reaches.{Reached, reaches-then}
-use Rattle.propagation.specs.Arcs.{Sound, subset-difference}
-use Rattle.propagation.specs.Detection.{AllLive}
-use Rattle.propagation.specs.Transitivity.{AllValid}
-use Rattle.propagation.specs.Precedence.{Raises, Reads, Shuts}
-use Rattle.propagation.specs.Gone.{AllGone, Crossed, Unfit, none-gone, both-gone, gone-before, crossed-gone, unfit-gone}
+use Rattle.board.specs.Update.Filled.{filled}
+use Rattle.board.specs.Update.Reaches.{Reached, reaches-then}
+use Rattle.board.specs.Tests.Sets.{subset-difference}
+use Rattle.exclusion.specs.Gone.{AllGone, Crossed, Unfit, none-gone, both-gone, gone-before, crossed-gone, unfit-gone}
+use Rattle.ordering.specs.Arcs.{Sound}
+use Rattle.ordering.specs.Detection.{AllLive}
+use Rattle.ordering.specs.Transitivity.{AllValid}
+use Rattle.precedence.specs.Precedence.{Raises, Reads, Shuts}
 
 -- live jobs of the board and valid ones, and its arrays
 pub record Marked (live valids : ℕ) (earliest latest lengths : List ℤ) (b : Board) : Type 0 where
@@ -25,17 +27,7 @@ pub record Marked (live valids : ℕ) (earliest latest lengths : List ℤ) (b : 
 
 -- the board b with other windows and arcs
 abbrev pub tabled : Board → List ℤ → List ℤ → List ℕ → List ℕ → Board
-tabled b earliest latest before after =
-    record {
-      jobs = b .jobs;
-      lengths = b .lengths;
-      earliest = earliest;
-      latest = latest;
-      marks = b .marks;
-      after = after;
-      before = before;
-      tally = b .tally;
-    }
+tabled b earliest latest before after = filled b (b .lengths) earliest latest (b .marks) after before
 
 -- After some turns from the board b: the words are those of live and of valid jobs of b, and the arrays were reached from it.
 pub record Turns (b : Board) (live valids : ℕ) (earliest latest : List ℤ) (before after : List ℕ) : Type 0 where

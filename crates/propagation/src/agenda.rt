@@ -1,17 +1,21 @@
 // What propagation has still to look at. Nothing is promised of it: whatever is left out here, the search finds.
-use crate::ends::Ends;
-use crate::precedence::Pushed;
 use board::facts::Side;
+use ordering::ends::Ends;
+use precedence::Pushed;
 
-// The jobs whose E or D the valid jobs beyond them may move (R4, R5), those whose E or D has moved (R3), those through which R1 may join
-// others, and those at the ends of new arcs (R2).
+// The jobs with a new one before them, whose E it may move (R4), and those with a new one after them, whose D it may move (R5). The jobs
+// after a raised one and before a lowered one, which move only seldom, since most arcs have room to spare. The jobs that have moved
+// (R6, R3). Those through which R1 may join others, and those that may have arcs both ways to another (R2). The side whose turn it is.
 pub struct Agenda {
     pub early: u64,
     pub late: u64,
+    pub after_raised: u64,
+    pub before_lowered: u64,
     pub raised: u64,
     pub lowered: u64,
-    pub joins: u64,
-    pub ends: u64,
+    pub through: u64,
+    pub crossed: u64,
+    pub late_next: bool,
 }
 
 // Nothing to do.
@@ -19,19 +23,23 @@ pub fn nothing() -> Agenda {
     Agenda {
         early: 0,
         late: 0,
+        after_raised: 0,
+        before_lowered: 0,
         raised: 0,
         lowered: 0,
-        joins: 0,
-        ends: 0,
+        through: 0,
+        crossed: 0,
+        late_next: false,
     }
 }
 
 // Is nothing left to do?
 pub fn is_done(left: Agenda) -> bool {
-    let windows = words::union(left.early, left.late);
+    let new = words::union(left.early, left.late);
+    let behind = words::union(left.after_raised, left.before_lowered);
     let moves = words::union(left.raised, left.lowered);
-    let arcs = words::union(left.joins, left.ends);
-    words::union(words::union(windows, moves), arcs) == 0
+    let arcs = words::union(left.through, left.crossed);
+    words::union(words::union(new, behind), words::union(moves, arcs)) == 0
 }
 
 // What is left where some jobs alone are live.
@@ -39,11 +47,75 @@ pub fn among(left: Agenda, live: u64) -> Agenda {
     Agenda {
         early: words::intersection(left.early, live),
         late: words::intersection(left.late, live),
+        after_raised: words::intersection(left.after_raised, live),
+        before_lowered: words::intersection(left.before_lowered, live),
         raised: words::intersection(left.raised, live),
         lowered: words::intersection(left.lowered, live),
-        joins: left.joins,
-        ends: left.ends,
+        through: left.through,
+        crossed: left.crossed,
+        late_next: left.late_next,
     }
+}
+
+fn other(side: Side) -> Side {
+    match side {
+        Side::Early => Side::Late,
+        Side::Late => Side::Early,
+    }
+}
+
+// The jobs with new ones beyond them on that side.
+fn new_on(left: Agenda, side: Side) -> u64 {
+    match side {
+        Side::Early => left.early,
+        Side::Late => left.late,
+    }
+}
+
+// The jobs behind moved ones on that side.
+fn behind_on(left: Agenda, side: Side) -> u64 {
+    match side {
+        Side::Early => left.after_raised,
+        Side::Late => left.before_lowered,
+    }
+}
+
+// On which side jobs are to move next. Those with new ones beyond them come first, on either side, since these do move, and may have moved
+// further by the time that the others are asked. The sides take turns, so that long work on one doesn't put off a contradiction on the other.
+pub fn next_side(left: Agenda) -> Side {
+    let first = if left.late_next {
+        Side::Late
+    } else {
+        Side::Early
+    };
+    let second = other(first);
+    if new_on(left, first) != 0 {
+        return first;
+    }
+    if new_on(left, second) != 0 {
+        return second;
+    }
+    if behind_on(left, first) != 0 {
+        return first;
+    }
+    second
+}
+
+// The jobs to move on that side.
+pub fn due_on(left: Agenda, side: Side) -> u64 {
+    let new = new_on(left, side);
+    if new != 0 {
+        return new;
+    }
+    behind_on(left, side)
+}
+
+// A side on which jobs have moved, where there is one.
+pub fn moved_side(left: Agenda) -> Side {
+    if left.raised != 0 {
+        return Side::Early;
+    }
+    Side::Late
 }
 
 // The jobs that have moved on one side.
@@ -57,15 +129,15 @@ pub fn moved_on(left: Agenda, side: Side) -> u64 {
 // After R2.
 pub fn checked(left: Agenda) -> Agenda {
     let mut next = left;
-    next.ends = 0;
+    next.crossed = 0;
     next
 }
 
 // After R1: `found` are the ends of the arcs that it set. What R1 infers from these it has inferred already.
 pub fn joined(left: Agenda, found: Ends) -> Agenda {
     let mut next = left;
-    next.joins = 0;
-    next.ends = words::union(found.early, found.late);
+    next.through = 0;
+    next.crossed = found.crossed;
     next.early = words::union(left.early, found.early);
     next.late = words::union(left.late, found.late);
     next
@@ -82,11 +154,16 @@ pub fn detected(left: Agenda, side: Side, found: Ends) -> Agenda {
             next.lowered = 0;
         }
     }
-    next.joins = words::union(found.early, found.late);
-    next.ends = words::union(found.early, found.late);
+    next.through = found.through;
+    next.crossed = found.crossed;
     next.early = words::union(left.early, found.early);
     next.late = words::union(left.late, found.late);
     next
+}
+
+// What is left of the jobs behind moved ones after R4 or R5 at some jobs.
+fn behind_after(left: u64, done: u64, step: Pushed) -> u64 {
+    words::union(words::difference(left, done), step.next)
 }
 
 // After R4 or R5 at some jobs.
@@ -94,11 +171,15 @@ pub fn pushed(left: Agenda, side: Side, done: u64, step: Pushed) -> Agenda {
     let mut next = left;
     match side {
         Side::Early => {
-            next.early = words::union(words::difference(left.early, done), step.next);
+            next.late_next = true;
+            next.early = words::difference(left.early, done);
+            next.after_raised = behind_after(left.after_raised, done, step);
             next.raised = words::union(left.raised, step.moved);
         }
         Side::Late => {
-            next.late = words::union(words::difference(left.late, done), step.next);
+            next.late_next = false;
+            next.late = words::difference(left.late, done);
+            next.before_lowered = behind_after(left.before_lowered, done, step);
             next.lowered = words::union(left.lowered, step.moved);
         }
     }

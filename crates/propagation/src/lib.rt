@@ -4,29 +4,30 @@ use crate::agenda::Agenda;
 use crate::agenda::among;
 use crate::agenda::checked;
 use crate::agenda::detected;
+use crate::agenda::due_on;
 use crate::agenda::is_done;
 use crate::agenda::joined;
 use crate::agenda::moved_on;
+use crate::agenda::moved_side;
+use crate::agenda::next_side;
 use crate::agenda::pushed;
-use crate::detection::detect_arcs;
-use crate::exclusion::excluded;
-use crate::exclusion::unfit;
-use crate::precedence::frontier;
-use crate::precedence::push;
-use crate::transitivity::join_arcs;
 use board::Board;
 use board::facts::Side;
+use exclusion::excluded;
+use exclusion::unfit;
+use ordering::detection::detect_arcs;
+use ordering::transitivity::join_arcs;
+use precedence::frontier;
+use precedence::push;
 ghost use mathlib.Core.List.{List};
+ghost use Prim.Native.Nat.{ℕ};
 ghost use lib.IntN.{ℤ};
+ghost use Rattle.board.specs.Paper.Values.{sideOf};
 ghost use Rattle.energy.specs.Energy.{Times, Lengths};
+ghost use Rattle.precedence.specs.Precedence.{Raises, Reads, Shuts};
 ghost use Rattle.propagation.specs.Turns.{Onward, Shut};
 
 pub mod agenda;
-pub mod detection;
-pub mod ends;
-pub mod exclusion;
-pub mod precedence;
-pub mod transitivity;
 
 // How many turns there are at the most. What they leave the search finds.
 const TURNS: usize = 65536;
@@ -48,15 +49,15 @@ fn turn_arcs(
     ensures { λ r. ⌜ ((lengths earliest latest : List ℤ) → Onward live valid lengths earliest latest (now (before .entry)) (now (after .entry)) earliest latest (now (before .exit)) (now (after .exit))) ⌝ }
     ensures { λ r. ⌜ ((lengths earliest latest : List ℤ) → Shut live valid lengths earliest latest (now (before .entry)) (now (after .entry)) (r .stuck)) ⌝ }
 {
-    if left.ends != 0 {
-        let set = words::intersection(left.ends, valid);
+    if left.crossed != 0 {
+        let set = words::intersection(left.crossed, valid);
         let stuck = excluded(set, before, after);
         return Turned {
             left: checked(left),
             stuck,
         };
     }
-    let through = words::intersection(left.joins, valid);
+    let through = words::intersection(left.through, valid);
     let found = join_arcs(before, after, through, live);
     Turned {
         left: joined(left, found),
@@ -84,11 +85,7 @@ fn turn_order<'a>(
     if stuck != 0 {
         return Turned { left, stuck };
     }
-    let side = if left.raised != 0 {
-        Side::Early
-    } else {
-        Side::Late
-    };
+    let side = moved_side(left);
     let due = moved_on(left, side);
     let found = detect_arcs(
         side,
@@ -107,37 +104,66 @@ fn turn_order<'a>(
     }
 }
 
-// R4, and where it has nothing to do R5, at the jobs that come first in topological order.
+// R4 or R5 on one side, at those of the jobs to move next that come first in topological order.
+fn turn_side<'a>(
+    side: Side,
+    times: &mut [i32; Board::JOBS],
+    fixed: &'a [i32; Board::JOBS],
+    lengths: &'a [i32; Board::JOBS],
+    beyond: &'a [u64; Board::JOBS],
+    opposite: &'a [u64; Board::JOBS],
+    valid: u64,
+    left: Agenda,
+) -> Turned
+    requires { ⌜ Times (now times) × Times (now fixed) × Lengths (now lengths) ⌝ }
+    ensures { λ r. ⌜ Times (now (times .exit)) ⌝ }
+    ensures { λ r. ⌜ Raises (sideOf side) (Reads (sideOf side) (now (fixed .entry)) (now (lengths .entry)) (now (beyond .entry)) valid) (now (times .entry)) (now (times .exit)) ⌝ }
+    ensures { λ r. ⌜ Shuts (sideOf side) (Reads (sideOf side) (now (fixed .entry)) (now (lengths .entry)) (now (beyond .entry)) valid) (now (times .entry)) (r .stuck) ⌝ }
+{
+    let set = frontier(due_on(left, side), valid, beyond, opposite);
+    let step = push(side, set, times, fixed, lengths, beyond, opposite, valid);
+    Turned {
+        left: pushed(left, side, set, step),
+        stuck: step.stuck,
+    }
+}
+
+// R4 or R5, on the side on which jobs are to move next.
 fn turn_windows<'a>(
     earliest: &mut [i32; Board::JOBS],
     latest: &mut [i32; Board::JOBS],
     lengths: &'a [i32; Board::JOBS],
     before: &'a [u64; Board::JOBS],
     after: &'a [u64; Board::JOBS],
-    live: u64,
     valid: u64,
     left: Agenda,
 ) -> Turned
     requires { ⌜ Times (now earliest) × Times (now latest) × Lengths (now lengths) ⌝ }
     ensures { λ r. ⌜ Times (now (earliest .exit)) × Times (now (latest .exit)) ⌝ }
-    ensures { λ r. ⌜ Onward live valid (now (lengths .entry)) (now (earliest .entry)) (now (latest .entry)) (now (before .entry)) (now (after .entry)) (now (earliest .exit)) (now (latest .exit)) (now (before .entry)) (now (after .entry)) ⌝ }
-    ensures { λ r. ⌜ Shut live valid (now (lengths .entry)) (now (earliest .entry)) (now (latest .entry)) (now (before .entry)) (now (after .entry)) (r .stuck) ⌝ }
+    ensures { λ r. ⌜ ((live : ℕ) → Onward live valid (now (lengths .entry)) (now (earliest .entry)) (now (latest .entry)) (now (before .entry)) (now (after .entry)) (now (earliest .exit)) (now (latest .exit)) (now (before .entry)) (now (after .entry))) ⌝ }
+    ensures { λ r. ⌜ ((live : ℕ) → Shut live valid (now (lengths .entry)) (now (earliest .entry)) (now (latest .entry)) (now (before .entry)) (now (after .entry)) (r .stuck)) ⌝ }
 {
-    if left.early != 0 {
-        let set = frontier(left.early, valid, before, after);
-        let side = Side::Early;
-        let step = push(side, set, earliest, latest, lengths, before, after, valid);
-        return Turned {
-            left: pushed(left, Side::Early, set, step),
-            stuck: step.stuck,
-        };
-    }
-    let set = frontier(left.late, valid, after, before);
-    let side = Side::Late;
-    let step = push(side, set, latest, earliest, lengths, after, before, valid);
-    Turned {
-        left: pushed(left, Side::Late, set, step),
-        stuck: step.stuck,
+    match next_side(left) {
+        Side::Early => turn_side(
+            Side::Early,
+            earliest,
+            latest,
+            lengths,
+            before,
+            after,
+            valid,
+            left,
+        ),
+        Side::Late => turn_side(
+            Side::Late,
+            latest,
+            earliest,
+            lengths,
+            after,
+            before,
+            valid,
+            left,
+        ),
     }
 }
 
@@ -158,13 +184,13 @@ fn turn(
     ensures { λ r. ⌜ Onward live valid (now (lengths .entry)) (now (earliest .entry)) (now (latest .entry)) (now (before .entry)) (now (after .entry)) (now (earliest .exit)) (now (latest .exit)) (now (before .exit)) (now (after .exit)) ⌝ }
     ensures { λ r. ⌜ Shut live valid (now (lengths .entry)) (now (earliest .entry)) (now (latest .entry)) (now (before .entry)) (now (after .entry)) (r .stuck) ⌝ }
 {
-    if words::union(left.ends, left.joins) != 0 {
+    if words::union(left.crossed, left.through) != 0 {
         return turn_arcs(before, after, live, valid, left);
     }
     if words::union(left.raised, left.lowered) != 0 {
         return turn_order(before, after, earliest, latest, lengths, live, valid, left);
     }
-    turn_windows(earliest, latest, lengths, before, after, live, valid, left)
+    turn_windows(earliest, latest, lengths, before, after, valid, left)
 }
 
 // Turn after turn, until nothing is left to do, or a valid job can't stay: then there is no board. Gives the jobs that can't stay, since they no

@@ -17,6 +17,7 @@ use Rattle.board.specs.Paper.View.{View, Valid, Side, bound, Beyond, view}
 use Rattle.board.specs.Paper.Limits.{jobLimit}
 use Rattle.board.specs.Paper.Values.{turned}
 use Rattle.board.specs.Inference.Infers.{Pushing}
+use Rattle.board.specs.Tests.Sets.{Subset}
 use Rattle.energy.specs.Exact.{timesOf, bound-is}
 use Rattle.rules.specs.BoundBeyond.{pushing}
 use Rattle.rules.specs.Settled.{Settled}
@@ -24,11 +25,11 @@ use Rattle.rules.specs.JobSearched.{wordsOf, SideRead, Represented, beyo
 
 -- the jobs of the set w lie in the word w', and as bounds on side s the time t is no lower than t'
 pub record Dominated (s : Side) (w w' : ℕ) (t t' : ℤ) : Type 0 where
-  pub shared : (k : ℕ) → bit w k ≡ true → bit w' k ≡ true
+  pub shared : Subset w w'
   pub low : turned s t' ≤ℤ turned s t
 
 -- as the code tests it
-pub tested : {s : Side} {w w' : ℕ} {t t' : ℤ} → ((k : ℕ) → bit w k ≡ true → bit w' k ≡ true) → ltZ (turned s t) (turned s t') ≡ false
+pub tested : {s : Side} {w w' : ℕ} {t t' : ℤ} → Subset w w' → ltZ (turned s t) (turned s t') ≡ false
     → Dominated s w w' t t'
 tested shared e = record { shared = shared; low = omega whole }
 

@@ -93,7 +93,7 @@ pub fn bound_beyond<'a>(
 }
 
 // Is a time, as a bound on one side, below another?
-fn is_lower(side: Side, time: i32, other: i32) -> bool
+pub fn is_lower(side: Side, time: i32, other: i32) -> bool
     ensures { λ r. ⌜ r ≡ ltZ (turned (sideOf side) time) (turned (sideOf side) other) ⌝ }
 {
     match side {

@@ -92,7 +92,7 @@ module _ (set j : ℕ) (inside : set < 2 ^ jobLimit) (place : j < jobLimit) wher
 
 -- ---- boards
 
-pub strike-jobs : (b : Board) (set : ℕ) → strike b set .jobs ≡ b .jobs
+strike-jobs : (b : Board) (set : ℕ) → strike b set .jobs ≡ b .jobs
 unfolding strikeBelow
 strike-jobs b set = refl
 
@@ -209,8 +209,3 @@ module _ (c : Board) (within : Within c) (set : ℕ) (jobs : (j : ℕ) → bit s
       upto : (n : ℕ) → Both (strike c (first n))
       upto zero = rw (none-first, strike-none c within) (within, start)
       upto (suc n) = next n (bit set n) refl (upto n)
-
-  pub strike-within : Within (strike c set)
-  strike-within =
-      strike-induction (λ d. Within d × (d .jobs ≡ c .jobs)) (within, refl)
-      (λ d j h e _ p. (invalidate-within d h j (omega (arith, jobs j e, p .1)), p .1)) .0

@@ -1,14 +1,11 @@
--- `bayboard_mark` meets its contract, by the law of a board that is altered where it is kept. Assumes nothing.
-use mathlib.Core.Path.{_≡_}
-use mathlib.Core.Option.{none}
+-- `bayboard_mark` meets its contract, by the law of a board that is lent again to the call that alters it. Assumes nothing.
+use mathlib.Core.Path.{ap}
 use Rattle.entries.specs.Paper.Entry as entry
-use Rattle.entries.specs.Paper.Enter.{enter}
+use Rattle.host.proofs.mark.Met.{met}
+use Rattle.host.proofs.mark.Symbol as in-place
 use Rattle.host.proofs.Called.{holds}
-use Rattle.host.proofs.Altered.{law}
-use Rattle.exports.specs.Replies as said
-use Rattle.exports.proofs.Handed.{replied}
-use Rattle.exports.proofs.by_value.mark.Met.{met}
-use Rattle.exports.proofs.by_value.mark.Symbol as by-value
+use Rattle.exports.specs.Replies.{replied}
+use Rattle.exports.proofs.Relayed.{law}
 use Rattle.exports.proofs.bayboard_mark as mark
 use Rattle.exports.proofs.bayboard_mark.Code as code
 use Rattle.exports.proofs.bayboard_mark.Key.{name}
@@ -17,6 +14,7 @@ use Rattle.exports.proofs.bayboard_mark.Statement.{statement}
 pub bayboard-mark-spec : {M : Type 1} → statement M
 unfolding code.routine
 bayboard-mark-spec 𝓤 H 𝓜 𝓖 𝓡 =
-    law 2 replied none (λ b z r. r ≡ said.replied (enter b (entry.other (entry.mark (z .0) (z .1 .0))))) 𝓤 H 𝓜 𝓖 𝓡
-    (λ κs a. mark.clauses 𝓤 H (𝓖 .A) (𝓜 .mem) (𝓡 .run) κs a .ensures) (λ κs a r e. holds 𝓤 e)
-    code.env name by-value.name by-value.routine (code.unfolded 𝓤 H 𝓜 𝓡) code.calls-exports·by-value·mark (met 𝓤 H 𝓜 𝓖 𝓡)
+    law 2 (λ z. entry.other (entry.mark (z .0) (z .1 .0))) 𝓤 H 𝓜 𝓖 𝓡
+    (λ κs a. mark.clauses 𝓤 H (𝓖 .A) (𝓜 .mem) (𝓡 .run) κs a .ensures) (λ κs a e p. holds 𝓤 (ap replied p))
+    code.env name in-place.name in-place.routine (code.unfolded 𝓤 H 𝓜 𝓡) code.calls-host·mark
+    code.calls-exports·replies·entry-reply (met 𝓤 H 𝓜 𝓖 𝓡)

@@ -1,49 +1,17 @@
 // The calls by value without check 0, on a board that passes it, with their replies in numbers.
 use crate::replies::PairReply;
 use crate::replies::PlanReply;
-use crate::replies::Replied;
 use crate::replies::RowReply;
 use crate::replies::pair_reply;
 use crate::replies::plan_reply;
-use crate::replies::reply_and_board;
 use crate::replies::row_reply;
 use dock::Dock;
 ghost use mathlib.Core.Path.{_≡_};
 ghost use mathlib.Core.Bool.{true};
 ghost use Rattle.closure.specs.Check.{passes};
-ghost use Rattle.entries.specs.Paper.Entry as entry;
-ghost use Rattle.entries.specs.Paper.Enter as paper;
 ghost use Rattle.entries.specs.Paper.Looking as looking;
 ghost use Rattle.tries.specs.Paper.Planner as planning;
-ghost use Rattle.exports.specs.Replies.{replied, rowReply, pairReply, planReply};
-
-pub fn addition(dock: Dock, length: i32, earliest: i32, latest: i32, mark: i32) -> Replied
-    requires { ⌜ passes (dock .board) ≡ true ⌝ }
-    ensures { λ r. ⌜ r ≡ replied (paper.enter (dock .board) (entry.addition length earliest latest mark)) ⌝ }
-{
-    reply_and_board(calls::addition(dock.board, length, earliest, latest, mark))
-}
-
-pub fn arc(dock: Dock, from: i32, to: i32) -> Replied
-    requires { ⌜ passes (dock .board) ≡ true ⌝ }
-    ensures { λ r. ⌜ r ≡ replied (paper.enter (dock .board) (entry.other (entry.arc from to))) ⌝ }
-{
-    reply_and_board(calls::arc(dock.board, from, to))
-}
-
-pub fn mark(dock: Dock, job: i32, mark: i32) -> Replied
-    requires { ⌜ passes (dock .board) ≡ true ⌝ }
-    ensures { λ r. ⌜ r ≡ replied (paper.enter (dock .board) (entry.other (entry.mark job mark))) ⌝ }
-{
-    reply_and_board(calls::mark(dock.board, job, mark))
-}
-
-pub fn cut(dock: Dock, job: i32, earliest: i32, latest: i32) -> Replied
-    requires { ⌜ passes (dock .board) ≡ true ⌝ }
-    ensures { λ r. ⌜ r ≡ replied (paper.enter (dock .board) (entry.other (entry.cut job earliest latest))) ⌝ }
-{
-    reply_and_board(calls::cut(dock.board, job, earliest, latest))
-}
+ghost use Rattle.exports.specs.Replies.{rowReply, pairReply, planReply};
 
 pub fn row(dock: Dock, job: i32) -> RowReply
     requires { ⌜ passes (dock .board) ≡ true ⌝ }

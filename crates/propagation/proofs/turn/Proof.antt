@@ -14,6 +14,9 @@ returns-2 c =
     let (early, late, _) = c .before .before .before .before .before .before .before .before .before .pre in
     ((early, late), c .turn-order .ensures)
 
+returns-3 : tie.Need-returns-3
+returns-3 c = let (hours, (onward, shut)) = c .turn-windows .ensures in (hours, (onward _, shut _))
+
 pub turn-spec : {M : Type 1} → statement M
 turn-spec =
     tie.close
@@ -25,4 +28,4 @@ turn-spec =
     (λ c κs. search needs)
     returns-2
     (λ c κs. search needs)
-    (λ c. c .turn-windows .ensures))
+    returns-3)

@@ -20,4 +20,5 @@ turn-order-spec =
     (λ c κs. search needs)
     (λ c κs. search needs)
     (λ c κs. search needs)
+    (λ c κs. search needs)
     (λ c. (arcs-detected _ _ _ _ _ _ _ _ _ (c .before .detect-arcs .ensures), shut-none _ _ _ _ _ _ _)))

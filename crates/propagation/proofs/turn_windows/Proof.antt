@@ -6,27 +6,24 @@ use Rattle.propagation.proofs.turn_windows.Tie as tie
 
 returns : tie.Need-returns
 returns c =
-    let run = c .before in
-    let (hours, (raised, shuts)) = run .push .ensures in
-    let start = run .before .before .before .before .before .before in
-    ((hours, start .pre .1), (early-alone _ _ _ _ _ _ _ _ raised, shut-early _ _ _ _ _ _ _ _ shuts))
+    let (hours, (raised, shuts)) = c .turn-side .ensures in
+    let start = c .before .before .before .before .before .before in
+    ((hours, start .pre .1), (λ live. early-alone _ _ _ _ _ _ _ _ raised, λ live. shut-early _ _ _ _ _ _ _ _ shuts))
 
 returns-2 : tie.Need-returns-2
 returns-2 c =
-    let run = c .before in
-    let (hours, (lowered, shuts)) = run .push2 .ensures in
-    let start = run .before .before .before .before .before .before in
-    ((start .pre .0, hours), (late-alone _ _ _ _ _ _ _ _ lowered, shut-late _ _ _ _ _ _ _ _ shuts))
+    let (hours, (lowered, shuts)) = c .turn-side2 .ensures in
+    let start = c .before .before .before .before .before .before in
+    ((start .pre .0, hours), (λ live. late-alone _ _ _ _ _ _ _ _ lowered, λ live. shut-late _ _ _ _ _ _ _ _ shuts))
 
 pub turn-windows-spec : {M : Type 1} → statement M
 turn-windows-spec =
     tie.close
     (tie.spec
     (λ c κs. search needs)
+    (λ c. search needs)
     (λ c κs. search needs)
+    (λ c. search needs)
     (λ c κs. search needs)
     returns
-    (λ c κs. search needs)
-    (λ c κs. search needs)
-    (λ c κs. search needs)
     returns-2)

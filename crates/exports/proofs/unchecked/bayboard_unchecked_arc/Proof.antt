@@ -1,14 +1,11 @@
--- `bayboard_unchecked_arc` meets its contract, by the law of a board that is altered where it is kept. Assumes nothing.
-use mathlib.Core.Path.{_≡_}
-use mathlib.Core.Option.{some}
+-- `bayboard_unchecked_arc` meets its contract, by the law of a board that is stored where it is kept. Assumes nothing.
+use mathlib.Core.Path.{ap}
 use Rattle.entries.specs.Paper.Entry as entry
-use Rattle.entries.specs.Paper.Enter.{enter}
+use Rattle.calls.proofs.arc.Met.{met}
+use Rattle.calls.proofs.arc.Symbol as by-value
 use Rattle.host.proofs.Called.{holds}
-use Rattle.host.proofs.Altered.{law}
-use Rattle.exports.specs.Replies as said
-use Rattle.exports.proofs.Handed.{Passing, replied}
-use Rattle.exports.proofs.unchecked.by_value.arc.Met.{met}
-use Rattle.exports.proofs.unchecked.by_value.arc.Symbol as by-value
+use Rattle.exports.specs.Replies.{replied}
+use Rattle.exports.proofs.Stored.{law}
 use Rattle.exports.proofs.unchecked.bayboard_unchecked_arc as arc
 use Rattle.exports.proofs.unchecked.bayboard_unchecked_arc.Code as code
 use Rattle.exports.proofs.unchecked.bayboard_unchecked_arc.Key.{name}
@@ -17,6 +14,7 @@ use Rattle.exports.proofs.unchecked.bayboard_unchecked_arc.Statement.{s
 pub bayboard-unchecked-arc-spec : {M : Type 1} → statement M
 unfolding code.routine
 bayboard-unchecked-arc-spec 𝓤 H 𝓜 𝓖 𝓡 =
-    law 2 replied (some Passing) (λ b z r. r ≡ said.replied (enter b (entry.other (entry.arc (z .0) (z .1 .0))))) 𝓤 H 𝓜 𝓖 𝓡
-    (λ κs a. arc.clauses 𝓤 H (𝓖 .A) (𝓜 .mem) (𝓡 .run) κs a .ensures) (λ κs a r e. holds 𝓤 e)
-    code.env name by-value.name by-value.routine (code.unfolded 𝓤 H 𝓜 𝓡) code.calls-exports·unchecked·by-value·arc (met 𝓤 H 𝓜 𝓖 𝓡)
+    law 2 (λ z. entry.other (entry.arc (z .0) (z .1 .0))) 𝓤 H 𝓜 𝓖 𝓡
+    (λ κs a. arc.clauses 𝓤 H (𝓖 .A) (𝓜 .mem) (𝓡 .run) κs a .ensures) (λ κs a e p. holds 𝓤 (ap replied p))
+    code.env name by-value.name by-value.routine (code.unfolded 𝓤 H 𝓜 𝓡) code.calls-calls·arc
+    code.calls-exports·replies·entry-reply (met 𝓤 H 𝓜 𝓖 𝓡)

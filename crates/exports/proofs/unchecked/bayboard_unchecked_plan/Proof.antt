@@ -6,7 +6,7 @@ use Rattle.tries.specs.Paper.Planner as planning
 use Rattle.host.proofs.Called.{holds}
 use Rattle.host.proofs.Looked.{law}
 use Rattle.exports.specs.Replies.{planReply}
-use Rattle.exports.proofs.Handed.{Passing}
+use Rattle.exports.proofs.Passing.{Passing}
 use Rattle.exports.proofs.replies.PlanReply as T
 use Rattle.exports.proofs.replies.PlanReply.Laws as T′
 use Rattle.exports.proofs.unchecked.by_value.plan.Met.{met}

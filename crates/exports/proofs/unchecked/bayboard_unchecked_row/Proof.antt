@@ -6,7 +6,7 @@ use Rattle.entries.specs.Paper.Looking as looking
 use Rattle.host.proofs.Called.{holds}
 use Rattle.host.proofs.Looked.{law}
 use Rattle.exports.specs.Replies.{rowReply}
-use Rattle.exports.proofs.Handed.{Passing}
+use Rattle.exports.proofs.Passing.{Passing}
 use Rattle.exports.proofs.replies.RowReply as T
 use Rattle.exports.proofs.replies.RowReply.Laws as T′
 use Rattle.exports.proofs.unchecked.by_value.row.Met.{met}

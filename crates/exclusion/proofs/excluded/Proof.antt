@@ -1,0 +1,78 @@
+-- `exclusion::excluded` meets its contract: one job after the other. Assumes nothing.
+use borrow.Author.Needs.{needs}
+use mathlib.Core.Path.{_≡_}
+use mathlib.Core.Bool.{true}
+use Rattle.words.specs.Bit.{bit}
+use Rattle.board.specs.Tests.Sets.{ToCome, to-come, fewer}
+use Rattle.exclusion.specs.Gone.{Crossed, crossed-none, crossed-more}
+use Rattle.exclusion.proofs.excluded.Statement.{statement}
+use Rattle.exclusion.proofs.excluded.Tie as tie
+
+abbrev Inv-loop : tie.InvT-loop
+Inv-loop set before after found₀ left₀ found left = ToCome (λ k. bit set k ≡ true) left × Crossed before after set found
+
+abbrev μ-loop : tie.MeasureT-loop
+μ-loop set before after found₀ left₀ found left = left
+
+loop-holds : tie.Need-loop-holds Inv-loop μ-loop
+loop-holds c = (to-come (c .fits .set .fits) (λ x e. e), crossed-none _ _ _)
+
+lowest-requires : tie.Need-lowest-requires Inv-loop μ-loop
+lowest-requires c κs = search needs
+
+without-requires : tie.Need-without-requires Inv-loop μ-loop
+without-requires c κs = search needs
+
+mul-intersection : tie.Need-mul-intersection Inv-loop μ-loop
+mul-intersection c = search needs
+
+element-copy-out-intersection : tie.Need-element-copy-out-intersection Inv-loop μ-loop
+element-copy-out-intersection c = search needs
+
+mul-intersection-2 : tie.Need-mul-intersection-2 Inv-loop μ-loop
+mul-intersection-2 c = search needs
+
+element-copy-out-intersection-2 : tie.Need-element-copy-out-intersection-2 Inv-loop μ-loop
+element-copy-out-intersection-2 c = search needs
+
+intersection-requires : tie.Need-intersection-requires Inv-loop μ-loop
+intersection-requires c κs = search needs
+
+union-requires : tie.Need-union-requires Inv-loop μ-loop
+union-requires c κs = search needs
+
+loop-less : tie.Need-loop-less Inv-loop μ-loop
+loop-less c =
+    let walk = c .before .before .before .before in
+    fewer (walk .before .before .before .loop .inv .0) (walk .before .lowest .ensures) (walk .without .ensures) .1
+
+loop-again : tie.Need-loop-again Inv-loop μ-loop
+loop-again c =
+    let walk = c .before .before .before .before in
+    let (left, found) = walk .before .before .before .loop .inv in
+    let low = walk .before .lowest .ensures in (
+      fewer left low (walk .without .ensures) .0,
+      crossed-more _ _ _ _ _ found (left .member _ (low .member)) _ _ (c .before .intersection .ensures) (c .union .ensures),
+    )
+
+returns : tie.Need-returns Inv-loop μ-loop
+returns c = c .before .loop .inv .1
+
+pub excluded-spec : {M : Type 1} → statement M
+excluded-spec =
+    tie.close
+    (tie.spec
+    Inv-loop
+    μ-loop
+    loop-holds
+    lowest-requires
+    without-requires
+    mul-intersection
+    element-copy-out-intersection
+    mul-intersection-2
+    element-copy-out-intersection-2
+    intersection-requires
+    union-requires
+    loop-less
+    loop-again
+    returns)

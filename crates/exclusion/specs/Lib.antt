@@ -1,0 +1,2 @@
+-- Exclusion: jobs that can't stay.
+pub mod Gone

@@ -1,0 +1,106 @@
+-- `ordering::detection::detect_each` meets its contract: one job after the other. Assumes nothing.
+use borrow.Author.Needs.{needs}
+use mathlib.Core.Path.{_≡_}
+use mathlib.Core.Bool.{true}
+use Rattle.words.specs.Bit.{bit}
+use Rattle.board.specs.Tests.Sets.{ToCome, to-come, fewer}
+use Rattle.ordering.specs.Arcs.{Sound, sound-none}
+use Rattle.ordering.specs.Detection.{Meeting, job-detected}
+use Rattle.ordering.proofs.detection.detect_each.Statement.{statement}
+use Rattle.ordering.proofs.detection.detect_each.Tie as tie
+
+abbrev Inv-loop : tie.InvT-loop
+Inv-loop side before₀ after₀ due others valid earliest latest lengths found₀ left₀ before after found left = ToCome (λ k. bit due k ≡ true) left × Sound (Meeting due others earliest latest lengths) before₀ after₀ before after
+
+abbrev μ-loop : tie.MeasureT-loop
+μ-loop side before₀ after₀ due others valid earliest latest lengths found₀ left₀ before after found left = left
+
+no-ends-requires : tie.Need-no-ends-requires Inv-loop μ-loop
+no-ends-requires c κs = search needs
+
+loop-holds : tie.Need-loop-holds Inv-loop μ-loop
+loop-holds c = (to-come (c .before .fits .due .fits) (λ x e. e), sound-none (Meeting _ _ _ _ _) _ _)
+
+lowest-requires : tie.Need-lowest-requires Inv-loop μ-loop
+lowest-requires c κs = search needs
+
+without-requires : tie.Need-without-requires Inv-loop μ-loop
+without-requires c κs = search needs
+
+mul-union : tie.Need-mul-union Inv-loop μ-loop
+mul-union c = search needs
+
+element-copy-out-union : tie.Need-element-copy-out-union Inv-loop μ-loop
+element-copy-out-union c = search needs
+
+mul-union-2 : tie.Need-mul-union-2 Inv-loop μ-loop
+mul-union-2 c = search needs
+
+element-copy-out-union-2 : tie.Need-element-copy-out-union-2 Inv-loop μ-loop
+element-copy-out-union-2 c = search needs
+
+union-requires : tie.Need-union-requires Inv-loop μ-loop
+union-requires c κs = search needs
+
+kept-apart-requires : tie.Need-kept-apart-requires Inv-loop μ-loop
+kept-apart-requires c κs = search needs
+
+without-requires-2 : tie.Need-without-requires-2 Inv-loop μ-loop
+without-requires-2 c κs = search needs
+
+difference-requires : tie.Need-difference-requires Inv-loop μ-loop
+difference-requires c κs = search needs
+
+detect-beside-requires : tie.Need-detect-beside-requires Inv-loop μ-loop
+detect-beside-requires c κs = search needs
+
+all-ends-requires : tie.Need-all-ends-requires Inv-loop μ-loop
+all-ends-requires c κs = search needs
+
+-- from the end of a turn of the loop back to the job that it took
+abbrev walk-of : tie.After-detect-beside Inv-loop μ-loop → tie.After-without Inv-loop μ-loop
+walk-of c = c .before .before .before .before .before .before .before .before .before
+
+loop-less : tie.Need-loop-less Inv-loop μ-loop
+loop-less c =
+    let walk = walk-of (c .before) in
+    fewer (walk .before .before .before .loop .inv .0) (walk .before .lowest .ensures) (walk .without .ensures) .1
+
+loop-again : tie.Need-loop-again Inv-loop μ-loop
+loop-again c =
+    let found = c .before in
+    let others = found .before .before .before in
+    let walk = walk-of found in
+    let at = walk .before .before .before in
+    let (left, run) = at .loop .inv in
+    let low = walk .before .lowest .ensures in (
+      fewer left low (walk .without .ensures) .0,
+      job-detected _ _ _ _ _ _ _ (at .before .before .fits .others .fits) _ _ run _ _ _ (low .width) (left .member _ (low .member)) (others .before .before .kept-apart .ok) (rw (others .before .without2 .ensures) at (others .difference .ensures)) _ _ (found .detect-beside .ensures),
+    )
+
+returns : tie.Need-returns Inv-loop μ-loop
+returns c = c .before .loop .inv .1
+
+pub detect-each-spec : {M : Type 1} → statement M
+detect-each-spec =
+    tie.close
+    (tie.spec
+    Inv-loop
+    μ-loop
+    no-ends-requires
+    loop-holds
+    lowest-requires
+    without-requires
+    mul-union
+    element-copy-out-union
+    mul-union-2
+    element-copy-out-union-2
+    union-requires
+    kept-apart-requires
+    without-requires-2
+    difference-requires
+    detect-beside-requires
+    all-ends-requires
+    loop-less
+    loop-again
+    returns)

@@ -1,0 +1,93 @@
+-- `ordering::transitivity::join` meets its contract: R1 infers each arc that it sets. Assumes nothing.
+use borrow.Author.Needs.{needs}
+use mathlib.Core.Path.{_≡_}
+use mathlib.Core.Bool.{true}
+use Rattle.words.specs.Bit.{bit}
+use Rattle.board.specs.Tests.Sets.{ToCome, to-come, fewer, subset-intersection}
+use Rattle.ordering.specs.Arcs.{Sound, sound-none}
+use Rattle.ordering.specs.Transitivity.{missing, Forth, joined}
+use Rattle.ordering.proofs.transitivity.join.Statement.{statement}
+use Rattle.ordering.proofs.transitivity.join.Tie as tie
+
+abbrev Inv-loop : tie.InvT-loop
+Inv-loop before₀ after₀ from through live all gap left₀ before after left =
+    ToCome (λ to. bit (missing after₀ from through) to ≡ true) left
+    × Sound (Forth from through) before₀ after₀ before after
+
+abbrev μ-loop : tie.MeasureT-loop
+μ-loop before₀ after₀ from through live all gap left₀ before after left = left
+
+mul-without : tie.Need-mul-without Inv-loop μ-loop
+mul-without c = search needs
+
+element-copy-out-without : tie.Need-element-copy-out-without Inv-loop μ-loop
+element-copy-out-without c = search needs
+
+without-requires : tie.Need-without-requires Inv-loop μ-loop
+without-requires c κs = search needs
+
+mul-difference : tie.Need-mul-difference Inv-loop μ-loop
+mul-difference c = search needs
+
+element-copy-out-difference : tie.Need-element-copy-out-difference Inv-loop μ-loop
+element-copy-out-difference c = search needs
+
+difference-requires : tie.Need-difference-requires Inv-loop μ-loop
+difference-requires c κs = search needs
+
+loop-holds : tie.Need-loop-holds Inv-loop μ-loop
+loop-holds c = (
+  to-come (c .intersection .ok) λ x e.
+      let all = c .before in
+      rw (all .difference .ensures, all .before .before .without .ensures) at (subset-intersection _ _ .0 x (rw (c .intersection .ensures) at e)),
+  sound-none (Forth _ _) _ _,
+)
+
+lowest-requires : tie.Need-lowest-requires Inv-loop μ-loop
+lowest-requires c κs = search needs
+
+without-requires-2 : tie.Need-without-requires-2 Inv-loop μ-loop
+without-requires-2 c κs = search needs
+
+link-requires : tie.Need-link-requires Inv-loop μ-loop
+link-requires c κs = search needs
+
+loop-less : tie.Need-loop-less Inv-loop μ-loop
+loop-less c =
+    let walk = c .before .before .before in
+    fewer (walk .before .before .before .loop .inv .0) (walk .before .lowest .ensures) (walk .without2 .ensures) .1
+
+loop-again : tie.Need-loop-again Inv-loop μ-loop
+loop-again c =
+    let walk = c .before .before .before in
+    let at = walk .before .before .before in
+    let (left, run) = at .loop .inv in
+    let low = walk .before .lowest .ensures in
+    let place = at .before .before .before .before .before .before .pre .0 in (
+      fewer left low (walk .without2 .ensures) .0,
+      joined _ _ _ _ _ _ place run _ (left .member _ (low .member)) _ _ (c .link .ensures .0) (c .link .ensures .1),
+    )
+
+returns : tie.Need-returns Inv-loop μ-loop
+returns c = c .before .loop .inv .1
+
+pub join-spec : {M : Type 1} → statement M
+join-spec =
+    tie.close
+    (tie.spec
+    Inv-loop
+    μ-loop
+    mul-without
+    element-copy-out-without
+    without-requires
+    mul-difference
+    element-copy-out-difference
+    difference-requires
+    (λ c κs. search needs)
+    loop-holds
+    lowest-requires
+    without-requires-2
+    link-requires
+    loop-less
+    loop-again
+    returns)

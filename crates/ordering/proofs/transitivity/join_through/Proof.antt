@@ -1,0 +1,66 @@
+-- `ordering::transitivity::join_through` meets its contract: one row after the other. Assumes nothing.
+use borrow.Author.Needs.{needs}
+use mathlib.Core.Path.{_≡_}
+use mathlib.Core.Bool.{true}
+use Rattle.words.specs.Bit.{bit}
+use Rattle.board.specs.Tests.Sets.{ToCome, to-come, fewer}
+use Rattle.ordering.specs.Arcs.{Sound, sound-none}
+use Rattle.ordering.specs.Transitivity.{Through, row-joined}
+use Rattle.ordering.proofs.transitivity.join_through.Statement.{statement}
+use Rattle.ordering.proofs.transitivity.join_through.Tie as tie
+
+abbrev Inv-loop : tie.InvT-loop
+Inv-loop before₀ after₀ sources through live found₀ left₀ before after found left = ToCome (λ from. bit sources from ≡ true) left × Sound (Through through) before₀ after₀ before after
+
+abbrev μ-loop : tie.MeasureT-loop
+μ-loop before₀ after₀ sources through live found₀ left₀ before after found left = left
+
+no-ends-requires : tie.Need-no-ends-requires Inv-loop μ-loop
+no-ends-requires c κs = search needs
+
+loop-holds : tie.Need-loop-holds Inv-loop μ-loop
+loop-holds c = (to-come (c .before .fits .sources .fits) (λ x e. e), sound-none (Through _) _ _)
+
+lowest-requires : tie.Need-lowest-requires Inv-loop μ-loop
+lowest-requires c κs = search needs
+
+without-requires : tie.Need-without-requires Inv-loop μ-loop
+without-requires c κs = search needs
+
+join-requires : tie.Need-join-requires Inv-loop μ-loop
+join-requires c κs = search needs
+
+loop-less : tie.Need-loop-less Inv-loop μ-loop
+loop-less c =
+    let walk = c .before .before .before .before .before .before .before in
+    fewer (walk .before .before .before .loop .inv .0) (walk .before .lowest .ensures) (walk .without .ensures) .1
+
+loop-again : tie.Need-loop-again Inv-loop μ-loop
+loop-again c =
+    let joined = c .before .before .before .before in
+    let walk = joined .before .before .before in
+    let at = walk .before .before .before in
+    let (left, run) = at .loop .inv in
+    let low = walk .before .lowest .ensures in
+    let member = at .before .before .pre .1 _ (left .member _ (low .member)) in
+    (fewer left low (walk .without .ensures) .0, row-joined _ _ _ _ _ run _ member _ _ (joined .join .ensures))
+
+returns : tie.Need-returns Inv-loop μ-loop
+returns c = c .before .loop .inv .1
+
+pub join-through-spec : {M : Type 1} → statement M
+join-through-spec =
+    tie.close
+    (tie.spec
+    Inv-loop
+    μ-loop
+    no-ends-requires
+    loop-holds
+    lowest-requires
+    without-requires
+    join-requires
+    (λ c κs. search needs)
+    (λ c κs. search needs)
+    loop-less
+    loop-again
+    returns)

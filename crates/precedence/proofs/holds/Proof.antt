@@ -1,0 +1,31 @@
+-- `precedence::holds` meets its contract: a window with the new time on its side. Assumes nothing.
+use borrow.Author.Needs.{needs}
+use mir.ValLaws.{toZ-ofZ}
+use Rattle.precedence.proofs.holds.Statement.{statement}
+use Rattle.precedence.proofs.holds.Tie as tie
+
+enum-told : tie.Need-enum-told
+enum-told c = search needs
+
+holds-requires : tie.Need-holds-requires
+holds-requires c κs = search needs
+
+enum-told-2 : tie.Need-enum-told-2
+enum-told-2 c = search needs
+
+holds-requires-2 : tie.Need-holds-requires-2
+holds-requires-2 c κs = search needs
+
+returns : tie.Need-returns
+returns c =
+    let start = c .before .before .before in
+    rw (c .before .enum-told .given .1) (simp (toZ-ofZ, start .fits .time, start .fits .fixed, start .fits .length) at (c .holds .ensures))
+
+returns-2 : tie.Need-returns-2
+returns-2 c =
+    let start = c .before .before .before in
+    rw (c .before .enum-told2 .given .1) (simp (toZ-ofZ, start .fits .time, start .fits .fixed, start .fits .length) at (c .holds2 .ensures))
+
+pub holds-spec : {M : Type 1} → statement M
+holds-spec =
+    tie.close (tie.spec enum-told holds-requires enum-told-2 holds-requires-2 returns returns-2)

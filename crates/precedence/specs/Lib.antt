@@ -1,0 +1,4 @@
+-- Precedence propagation: windows moved by the jobs on one side of them.
+pub mod Bounds
+pub mod Leading
+pub mod Precedence
