@@ -8,7 +8,7 @@ use Prim.Native.Nat.{ℕ, _^_, _<_}
 use lib.Count.{trailingZeros}
 use lib.IntN.{ℤ}
 use lib.Signed.{ltZ, _≤ℤ_}
-use Rattle.words.specs.Bit.{bit, without, Lowest}
+use Rattle.words.specs.Bit.{bit, without}
 use Rattle.words.specs.BitLaws.{bit-zero, without-lt}
 use Rattle.words.specs.Walk.{trailing-lowest, without-self, without-other, without-inside, taken-out}
 use Rattle.minutes.specs.Bools.{refuted, by-test}
@@ -55,7 +55,7 @@ all-passed {s} {times} {w} {left} {low} hours p empty some-job = go (p .reached)
           least = below;
         }
 
-module _ {s : Side} {times : List ℤ} {w left : ℕ} {low : ℤ} (p : Passed s times w left low) (k : ℕ) (l : Lowest jobLimit left k) where
+module _ {s : Side} {times : List ℤ} {w left : ℕ} {low : ℤ} (p : Passed s times w left low) (k : ℕ) (width : k < jobLimit) (member : bit left k ≡ true) where
   abbrev rest : ℕ
   rest = without jobLimit left k
 
@@ -63,17 +63,17 @@ module _ {s : Side} {times : List ℤ} {w left : ℕ} {low : ℤ} (p : Passed s 
   rest-fits = without-lt jobLimit left k (p .left-fits)
 
   rest-inside : (j : ℕ) → bit rest j ≡ true → bit w j ≡ true
-  rest-inside j i = p .inside j (without-inside jobLimit left k (p .left-fits) (l .width) j i)
+  rest-inside j i = p .inside j (without-inside jobLimit left k (p .left-fits) width j i)
 
   -- another job than k
   ahead : (j : ℕ) → j ≢ k → bit rest j ≡ bit left j
-  ahead = without-other jobLimit left k (p .left-fits) (l .width)
+  ahead = without-other jobLimit left k (p .left-fits) width
 
   -- a job that was passed before is another than k
   still : (next : ℕ) → ((j : ℕ) → j ≢ k → bit next j ≡ bit w j) → Reached s times w left low → Reached s times next rest low
   still next others (inl last) = inl last
   still next others (inr (x, i, out, same)) =
-      let ne : x ≢ k = λ d. refuted out (ap (bit left) d ∙ l .member) in
+      let ne : x ≢ k = λ d. refuted out (ap (bit left) d ∙ member) in
       inr (x, others x ne ∙ i, ahead x ne ∙ out, same)
 
   -- job k is passed
@@ -84,10 +84,10 @@ module _ {s : Side} {times : List ℤ} {w left : ℕ} {low : ℤ} (p : Passed s 
         fits = p .fits;
         left-fits = rest-fits;
         inside = rest-inside;
-        least = taken-out jobLimit left k (p .left-fits) (l .width) (λ j. lesser low b ≤ℤ boundAt s times j) (λ j. bit w j ≡ true)
+        least = taken-out jobLimit left k (p .left-fits) width (λ j. lesser low b ≤ℤ boundAt s times j) (λ j. bit w j ≡ true)
             (λ j i out. omega (whole, p .least j i out, lesser-left low b)) (lesser-right low b);
         reached = by-test (Reached s times w rest) (ltZ low b) low b (λ d. still w (λ j ne. refl) (p .reached))
-            (λ d. inr (k, p .inside k (l .member), without-self jobLimit left k (p .left-fits) (l .width), refl));
+            (λ d. inr (k, p .inside k member, without-self jobLimit left k (p .left-fits) width, refl));
       }
 
   -- job k is struck
@@ -98,17 +98,17 @@ module _ {s : Side} {times : List ℤ} {w left : ℕ} {low : ℤ} (p : Passed s 
   pub kept-passed : (P : ℕ → Type 0) → ((j : ℕ) → bit w j ≡ true → bit left j ≡ false → P j)
       → (j : ℕ) → bit kept j ≡ true → bit rest j ≡ false → P j
   kept-passed P before j i out =
-      let ne : j ≢ k = λ same. refuted (ap (bit kept) same ∙ without-self jobLimit w k (p .fits) (l .width)) i in
-      before j (without-inside jobLimit w k (p .fits) (l .width) j i) (sym (ahead j ne) ∙ out)
+      let ne : j ≢ k = λ same. refuted (ap (bit kept) same ∙ without-self jobLimit w k (p .fits) width) i in
+      before j (without-inside jobLimit w k (p .fits) width j i) (sym (ahead j ne) ∙ out)
 
   pub pass-struck : Passed s times kept rest low
   pass-struck =
-      let others = without-other jobLimit w k (p .fits) (l .width) in
+      let others = without-other jobLimit w k (p .fits) width in
       record {
         fits = without-lt jobLimit w k (p .fits);
         left-fits = rest-fits;
         inside = λ j i.
-            let ne : j ≢ k = λ same. refuted (ap (bit rest) same ∙ without-self jobLimit left k (p .left-fits) (l .width)) i in
+            let ne : j ≢ k = λ same. refuted (ap (bit rest) same ∙ without-self jobLimit left k (p .left-fits) width) i in
             others j ne ∙ rest-inside j i;
         least = kept-passed (λ j. low ≤ℤ boundAt s times j) (p .least);
         reached = still kept others (p .reached);

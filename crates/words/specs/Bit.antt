@@ -42,3 +42,14 @@ pub record Lowest (n w k : ℕ) : Type 0 where
   pub width : k < n
   pub member : bit w k ≡ true
   pub least : (j : ℕ) → j < k → bit w j ≡ false
+
+-- k is the greatest member of the set w, of jobs below n
+pub record Highest (n w k : ℕ) : Type 0 where
+  pub width : k < n
+  pub member : bit w k ≡ true
+  pub greatest : (j : ℕ) → k < j → bit w j ≡ false
+
+-- k is the next job of a walk over the set w: its least member or, where the walk is falling, its greatest
+unfoldable pub Next : ℕ → Bool → ℕ → ℕ → Type 0
+Next n false w k = Lowest n w k
+Next n true w k = Highest n w k

@@ -11,7 +11,7 @@ use native.Mathlib.Omega.{arith}
 use lib.Arith.{bin-ind}
 use lib.Bits.{bitAnd, bitOr, bitXor, and-le-l, and-le-r, and-mask, and-mod, and-shr, or-add-and, or-mod, or-shr, xor-add-and, xor-mod, xor-shr, shifted-even, shifted-half}
 use lib.Dec.{eqb, ltb, eqb·zero-suc, eqb·suc-zero, eqb·suc-suc, leb·suc-zero, leb·suc-suc}
-use borrow.Author.Tests.{lt-ltb, le-ltb, eq-eqb, ne-eqb, not-false}
+use borrow.Author.Tests.{eqb-true, eqb-false, lt-ltb, le-ltb, eq-eqb, ne-eqb, not-false}
 use lib.Pow.{pow-lt, pow-mono, pow-pos, shl-shr, shr-shr, split}
 use Rattle.words.specs.Bit.{bit, singleton, union, intersection, difference, with, without, setOf}
 
@@ -29,6 +29,12 @@ digit P p q w = go (w % 2) (omega arith)
 pub bit-low : (w : ℕ) → bit w 0 ≡ eqb (w % 2) 1
 unfolding bit
 bit-low w = ap (λ (x : ℕ). eqb (x % 2) 1) (div-one w)
+
+pub bit-odd : (w : ℕ) → bit w 0 ≡ true → w % 2 ≡ 1
+bit-odd w e = eqb-true (w % 2) 1 (sym (bit-low w) ∙ e)
+
+pub bit-even : (w : ℕ) → bit w 0 ≡ false → w % 2 ≡ 0
+bit-even w e = omega (arith, eqb-false (w % 2) 1 (sym (bit-low w) ∙ e))
 
 -- words with the same lowest bit have the same lowest digit, since the bit tells the digit
 same-digit : (a b : ℕ) → bit a 0 ≡ bit b 0 → a % 2 ≡ b % 2
@@ -49,6 +55,14 @@ bit-half w k = bit-shift w 1 k ∙ ap (bit w) (omega arith)
 pub bit-high : (n w k : ℕ) → w < 2 ^ n → n ≤ k → bit w k ≡ false
 unfolding bit
 bit-high n w k h l = ap (λ (x : ℕ). eqb (x % 2) 1) (div-eq-of-lt (lt-of-lt-of-le h (pow-mono l)))
+
+-- the highest bit of a number
+pub bit-top : (w k : ℕ) → 2 ^ k ≤ w → w < 2 ^ suc k → bit w k ≡ true
+bit-top w zero low high =
+    let one : w % 2 ≡ 1 = omega (arith, low, high) in
+    bit-low w ∙ ap (λ (x : ℕ). eqb x 1) one
+bit-top w (suc k) low high =
+    sym (bit-half w k) ∙ bit-top (w / 2) k (omega (arith, low, pow-suc 2 k)) (omega (arith, high, pow-suc 2 (suc k)))
 
 pub bit-zero : (k : ℕ) → bit 0 k ≡ false
 bit-zero k = bit-high 0 0 k (omega arith) (omega arith)

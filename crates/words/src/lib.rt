@@ -56,3 +56,41 @@ pub fn lowest(w: u64) -> usize
 {
     u64::trailing_zeros(w) as usize
 }
+
+// The greatest job of a set that has one.
+pub fn highest(w: u64) -> usize
+    requires { ⌜ w ≢ 0 ⌝ }
+    ensures { λ r. ⌜ sets.Highest sets.width w r ⌝ }
+{
+    63 - u64::leading_zeros(w) as usize
+}
+
+// The set w with its least job k taken out. A walk needs no shift by k here, and goes on before k is known.
+pub fn rest(w: u64, k: usize) -> u64
+    requires { ⌜ sets.Lowest sets.width w k ⌝ }
+    ensures { λ r. ⌜ r ≡ sets.without sets.width w k ⌝ }
+{
+    w & (w - 1)
+}
+
+// The next job of a walk over a set that has one: its least or, where the walk is falling, its greatest.
+pub fn next(w: u64, falling: bool) -> usize
+    requires { ⌜ w ≢ 0 ⌝ }
+    ensures { λ r. ⌜ sets.Next sets.width falling w r ⌝ }
+{
+    if falling {
+        return highest(w);
+    }
+    lowest(w)
+}
+
+// What the walk has left: the set w with its next job k taken out.
+pub fn remaining(w: u64, k: usize, falling: bool) -> u64
+    requires { ⌜ sets.Next sets.width falling w k ⌝ }
+    ensures { λ r. ⌜ r ≡ sets.without sets.width w k ⌝ }
+{
+    if falling {
+        return without(w, k);
+    }
+    rest(w, k)
+}

@@ -11,9 +11,9 @@ use lib.Signed.{leZ, _<ℤ_, _≤ℤ_}
 use mir.Syntax.{w32}
 use mir.Val.{toZ, ofZ}
 use mir.ValLaws.{toZ-ofZ}
-use Rattle.words.specs.Bit.{bit, without, Lowest}
+use Rattle.words.specs.Bit.{bit, without}
 use Rattle.words.specs.BitLaws.{bit-zero}
-use Rattle.words.specs.Walk.{taken-out, walk-falls}
+use Rattle.words.specs.Walk.{without-falls, taken-out, next-width, next-member}
 use Rattle.minutes.specs.Bools.{refuted}
 use Rattle.minutes.specs.Linear.{whole, plus, minus}
 use Rattle.minutes.specs.Sum.{total-subset}
@@ -48,19 +48,19 @@ module _ {s : Side} {times lengths : List ℤ} {best : ℤ} {set : ℕ} (fits : 
     all-tested : left ≡ 0 → Beats s times lengths best set kept
     all-tested empty = record { over = λ k e. p .over k e (ap (λ w. bit w k) empty ∙ bit-zero k) }
 
-    module _ (k : ℕ) (l : Lowest jobLimit left k) where
+    module _ (k : ℕ) (width : k < jobLimit) (next : bit left k ≡ true) where
       strike : leZ (boundAt s times k +ℤ all) best ≡ true
           → Tested s times lengths best set (without jobLimit kept k) (without jobLimit left k) low (all -ℤ lengthAt lengths k)
       strike e =
-          let member = p .passed .inside k (l .member) in
+          let member = p .passed .inside k next in
           let less = load lengths (without jobLimit kept k) in
           let length = lengthAt lengths k in
-          let fewer = total-without jobLimit kept k (p .passed .fits) (l .width) member (lengthAt lengths) in
+          let fewer = total-without jobLimit kept k (p .passed .fits) width member (lengthAt lengths) in
           let under : (boundAt s times k +ℤ load lengths kept) ≤ℤ best = omega (whole, p .loaded, plus (boundAt s times k) all, plus (boundAt s times k) (load lengths kept)) in
           record {
-            passed = pass-struck (p .passed) k l;
-            strikes = struck kept k (p .strikes) (l .width) member under;
-            over = kept-passed (p .passed) k l (λ j. best <ℤ (boundAt s times j +ℤ load lengths set)) (p .over);
+            passed = pass-struck (p .passed) k width next;
+            strikes = struck kept k (p .strikes) width member under;
+            over = kept-passed (p .passed) k width next (λ j. best <ℤ (boundAt s times j +ℤ load lengths set)) (p .over);
             loaded = omega (whole, p .loaded, fewer, plus length less, plus all (negℤ length), minus length);
           }
 
@@ -71,36 +71,36 @@ module _ {s : Side} {times lengths : List ℤ} {best : ℤ} {set : ℕ} (fits : 
           let within = total-subset jobLimit (bit kept) (bit set) (lengthAt lengths) (λ j m. inside j) (λ j m h. work .low j) in
           let beaten : best <ℤ (boundAt s times k +ℤ load lengths set) = omega (whole, p .loaded, within, plus (boundAt s times k) all, plus (boundAt s times k) (load lengths set)) in
           record {
-            passed = pass (p .passed) k l;
+            passed = pass (p .passed) k width next;
             strikes = p .strikes;
-            over = taken-out jobLimit left k (p .passed .left-fits) (l .width) (λ j. best <ℤ (boundAt s times j +ℤ load lengths set)) (λ j. bit kept j ≡ true) (p .over) beaten;
+            over = taken-out jobLimit left k (p .passed .left-fits) width (λ j. best <ℤ (boundAt s times j +ℤ load lengths set)) (λ j. bit kept j ≡ true) (p .over) beaten;
             loaded = p .loaded;
           }
 
 abbrev Inv-loop : tie.InvT-loop
-Inv-loop side times lengths set load best kept₀ least₀ total₀ left₀ kept least total left =
+Inv-loop side times lengths set load best falling kept₀ least₀ total₀ left₀ kept least total left =
     Tested (sideOf side) times lengths (toZ w32 best) set kept left (toZ w32 least) (toZ w32 total)
 
 abbrev μ-loop : tie.MeasureT-loop
-μ-loop side times lengths set load best kept₀ least₀ total₀ left₀ kept least total left = left
+μ-loop side times lengths set load best falling kept₀ least₀ total₀ left₀ kept least total left = left
 
 loop-holds : tie.Need-loop-holds Inv-loop μ-loop
 loop-holds c = none-tested (c .fits .set .fits) _ (toZ-ofZ w32 _ (c .fits .load) ∙ c .pre .1 .1)
 
-lowest-requires : tie.Need-lowest-requires Inv-loop μ-loop
-lowest-requires c κs = c .loop-test .taken
+next-requires : tie.Need-next-requires Inv-loop μ-loop
+next-requires c κs = c .loop-test .taken
 
-without-requires : tie.Need-without-requires Inv-loop μ-loop
-without-requires c κs = c .lowest .ensures .width
+remaining-requires : tie.Need-remaining-requires Inv-loop μ-loop
+remaining-requires c κs = c .next .ensures
 
 bound-requires : tie.Need-bound-requires Inv-loop μ-loop
-bound-requires c κs = (c .before .before .before .before .pre .0, c .before .lowest .ensures .width)
+bound-requires c κs = (c .before .before .before .before .pre .0, next-width _ _ _ _ (c .before .next .ensures))
 
 -- a bound, as the machine reads it back from its bits
 low-is : (c : tie.After-bound Inv-loop μ-loop)
     → let s = c .before .before in
     let a = s .before .before .before .args in
-    toZ w32 (ofZ w32 (c .bound .result)) ≡ boundAt (sideOf (a .side)) (a .times .now) (s .lowest .result)
+    toZ w32 (ofZ w32 (c .bound .result)) ≡ boundAt (sideOf (a .side)) (a .times .now) (s .next .result)
 low-is c = toZ-ofZ w32 _ (record { sfits = c .bound .ok }) ∙ c .bound .ensures
 
 all-moderate : (c : tie.At-loop Inv-loop μ-loop) → Moderate (toZ w32 (c .loop .total))
@@ -110,48 +110,49 @@ sum-requires : tie.Need-sum-requires Inv-loop μ-loop
 sum-requires c κs =
     let s = c .before .before in
     let at = s .before .before in
-    (rw (low-is c) (bound-moderate (sideOf (at .before .args .side)) (at .before .pre .0) (s .lowest .result)), all-moderate at)
+    (rw (low-is c) (bound-moderate (sideOf (at .before .args .side)) (at .before .pre .0) (s .next .result)), all-moderate at)
 
 -- the bound with the total, as the machine reads it back from its bits
 sum-is : (c : tie.After-sum Inv-loop μ-loop)
     → let s = c .before .before .before in
     let at = s .before .before in
     let a = at .before .args in
-    toZ w32 (ofZ w32 (c .sum .result)) ≡ boundAt (sideOf (a .side)) (a .times .now) (s .lowest .result) +ℤ toZ w32 (at .loop .total)
+    toZ w32 (ofZ w32 (c .sum .result)) ≡ boundAt (sideOf (a .side)) (a .times .now) (s .next .result) +ℤ toZ w32 (at .loop .total)
 sum-is c = toZ-ofZ w32 _ (record { sfits = c .sum .ok }) ∙ (rw (low-is (c .before)) at (c .sum .ensures))
 
-without-requires-2 : tie.Need-without-requires-2 Inv-loop μ-loop
-without-requires-2 c κs = c .before .before .before .before .lowest .ensures .width
+without-requires : tie.Need-without-requires Inv-loop μ-loop
+without-requires c κs = next-width _ _ _ _ (c .before .before .before .before .next .ensures)
 
 mul-gap : tie.Need-mul-gap Inv-loop μ-loop
-mul-gap c = omega (arith, c .before .before .before .before .before .lowest .ensures .width)
+mul-gap c = omega (arith, next-width _ _ _ _ (c .before .before .before .before .before .next .ensures))
 
 element-copy-out-gap : tie.Need-element-copy-out-gap Inv-loop μ-loop
-element-copy-out-gap c = c .before .before .before .before .before .lowest .ensures .width
+element-copy-out-gap c = next-width _ _ _ _ (c .before .before .before .before .before .next .ensures)
 
 gap-requires : tie.Need-gap-requires Inv-loop μ-loop
 gap-requires c κs =
     let s = c .before .before .before .before .before .before in
     let at = s .before .before in
     let work = at .before .pre .1 .0 in
-    let k = s .lowest .result in
+    let k = s .next .result in
     (all-moderate at, simp (toZ-ofZ, length-fits work k) (length-moderate work k))
 
 loop-less : tie.Need-loop-less Inv-loop μ-loop
 loop-less c =
     let s = c .before .before .before .before .before .before in
-    walk-falls (s .before .before .before .loop .inv .passed .left-fits) (s .before .lowest .ensures) (s .without .ensures)
+    let at = s .before .next .ensures in
+    rw (s .remaining .ensures) (without-falls _ _ _ (s .before .before .before .loop .inv .passed .left-fits) (next-width _ _ _ _ at) (next-member _ _ _ _ at))
 
 loop-again : tie.Need-loop-again Inv-loop μ-loop
 loop-again c =
     let t = c .before .before .before in
     let s = t .before .before .before in
-    let low = s .before .lowest in
+    let low = s .before .next in
     let at = s .before .before .before in
     let start = at .before in
     let less = simp (toZ-ofZ, length-fits (start .pre .1 .0) (low .result)) at (c .gap .ensures) in
-    rw (s .without .ensures, c .before .before .without2 .ensures, toZ-ofZ w32 (c .gap .result) (record { sfits = c .gap .ok }), less)
-    (strike (start .fits .set .fits) (at .loop .inv) (low .result) (low .ensures) (rw (sum-is (t .before)) at (t .if1 .taken)))
+    rw (s .remaining .ensures, c .before .before .without .ensures, toZ-ofZ w32 (c .gap .result) (record { sfits = c .gap .ok }), less)
+    (strike (start .fits .set .fits) (at .loop .inv) (low .result) (next-width _ _ _ _ (low .ensures)) (next-member _ _ _ _ (low .ensures)) (rw (sum-is (t .before)) at (t .if1 .taken)))
 
 lesser-requires : tie.Need-lesser-requires Inv-loop μ-loop
 lesser-requires c κs = search needs
@@ -159,19 +160,20 @@ lesser-requires c κs = search needs
 loop-less-2 : tie.Need-loop-less-2 Inv-loop μ-loop
 loop-less-2 c =
     let s = c .before .before .before .before in
-    walk-falls (s .before .before .before .loop .inv .passed .left-fits) (s .before .lowest .ensures) (s .without .ensures)
+    let at = s .before .next .ensures in
+    rw (s .remaining .ensures) (without-falls _ _ _ (s .before .before .before .loop .inv .passed .left-fits) (next-width _ _ _ _ at) (next-member _ _ _ _ at))
 
 loop-again-2 : tie.Need-loop-again-2 Inv-loop μ-loop
 loop-again-2 c =
     let e = c .before in
     let s = e .before .before .before in
-    let low = s .before .lowest in
+    let low = s .before .next in
     let at = s .before .before .before in
     let start = at .before in
     let d = c .lesser in
     let least = toZ-ofZ w32 (d .result) (record { sfits = d .ok }) ∙ (rw (low-is (e .before .before)) at (d .ensures)) in
-    rw (s .without .ensures, least)
-    (keep (start .fits .set .fits) (at .loop .inv) (low .result) (low .ensures) (start .pre .1 .0) (rw (sum-is (e .before)) at (e .if1 .left)))
+    rw (s .remaining .ensures, least)
+    (keep (start .fits .set .fits) (at .loop .inv) (low .result) (next-width _ _ _ _ (low .ensures)) (next-member _ _ _ _ (low .ensures)) (start .pre .1 .0) (rw (sum-is (e .before)) at (e .if1 .left)))
 
 returns : tie.Need-returns Inv-loop μ-loop
 returns c =
@@ -191,11 +193,11 @@ strike-spec =
     Inv-loop
     μ-loop
     loop-holds
-    lowest-requires
-    without-requires
+    next-requires
+    remaining-requires
     bound-requires
     sum-requires
-    without-requires-2
+    without-requires
     mul-gap
     element-copy-out-gap
     gap-requires

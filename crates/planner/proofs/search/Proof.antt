@@ -200,8 +200,8 @@ add-tries c = let more = c .if3 .left in record { fits = omega (arith, more, hel
 lowest-requires : tie.Need-lowest-requires Inv-loop μ-loop
 lowest-requires c κs = c .before .if1 .left
 
-without-requires : tie.Need-without-requires Inv-loop μ-loop
-without-requires c κs = c .lowest .ensures .width
+rest-requires : tie.Need-rest-requires Inv-loop μ-loop
+rest-requires c κs = c .lowest .ensures
 
 mul-greater : tie.Need-mul-greater Inv-loop μ-loop
 mul-greater c = let j = c .before .lowest .ensures .width in record { fits = omega (arith, j) }
@@ -263,8 +263,8 @@ array-set-from-frees c = depth-room (c .before .before .before .before .before .
 add-depth : tie.Need-add-depth Inv-loop μ-loop
 add-depth c = record { fits = omega (arith, depth-room (c .before .before .before .before .before .before .before .before .before .before .before .before)) }
 
-without-requires-2 : tie.Need-without-requires-2 Inv-loop μ-loop
-without-requires-2 c κs = c .before .before .before .before .before .before .before .before .before .lowest .ensures .width
+without-requires : tie.Need-without-requires Inv-loop μ-loop
+without-requires c κs = c .before .before .before .before .before .before .before .before .before .lowest .ensures .width
 
 loop-less-2 : tie.Need-loop-less-2 Inv-loop μ-loop
 loop-less-2 c =
@@ -276,7 +276,7 @@ loop-again-2 c =
     let t = c .before .before in
     let e = t .before .before .before in
     let ends : SFits w32 (e .sum .result) = record { sfits = e .sum .ok } in
-    rw (c .without2 .ensures, e .before .before .before .before .without .ensures) (simp (toZ-ofZ, ends) (put-in t (c .before .if4 .taken)))
+    rw (c .without .ensures, e .before .before .before .before .rest .ensures) (simp (toZ-ofZ, ends) (put-in t (c .before .if4 .taken)))
 
 loop-less-3 : tie.Need-loop-less-3 Inv-loop μ-loop
 loop-less-3 c =
@@ -288,7 +288,7 @@ loop-again-3 c =
     let n = picked (c .before .before .before .before) in
     let s = head n in
     let more = n .before .if3 .left in
-    rw (c .before .before .before .before .before .before .before .before .without .ensures)
+    rw (c .before .before .before .before .before .before .before .before .rest .ensures)
     (tried-in-vain _ (s .before .before .pre .0) _ _ _ _ _ _ _ _ _ (held s) (s .loop-test .taken) _ (n .lowest .ensures)
     (omega (arith, more, held s .affordable)) (sym (tested (c .before)) ∙ c .if4 .left))
 
@@ -329,7 +329,7 @@ search-spec =
     returns-2
     add-tries
     lowest-requires
-    without-requires
+    rest-requires
     mul-greater
     element-copy-out-greater
     greater-requires
@@ -348,7 +348,7 @@ search-spec =
     mul-frees
     array-set-from-frees
     add-depth
-    without-requires-2
+    without-requires
     loop-less-2
     loop-again-2
     loop-less-3
