@@ -4,7 +4,6 @@ use board::Board;
 use board::facts::Fact;
 use board::facts::Side;
 use energy::EnergyBound;
-use energy::ends_by;
 use energy::energy_bound;
 use energy::single_bound;
 use windows::Window;
@@ -46,8 +45,8 @@ fn standing_apart(set: u64, k: usize, word: u64) -> u64
     words::difference(words::without(set, k), word)
 }
 
-// The bound that a set of jobs, all beyond `job` on one side, leaves to it, where it is above its own. Most of them lie beyond a last
-// one, whose bound has room for them already: where none stands apart it alone decides, and where some do they seldom push the job.
+// The bound that a set of jobs, all beyond `job` on one side, leaves to it, where it is above its own. Where all others lie beyond a last
+// one, its bound has room for them already, and it alone decides.
 fn bound_of<'a>(
     side: Side,
     job: usize,
@@ -64,9 +63,6 @@ fn bound_of<'a>(
     let apart = standing_apart(set, k, beyond[k]);
     if apart == 0 {
         return single_bound(side, times, lengths, k, times[job]);
-    }
-    if apart != words::without(set, k) && ends_by(side, times, lengths, k, apart, times[job]) {
-        return EnergyBound::Unbounded;
     }
     energy_bound(side, times, lengths, set, times[job])
 }
