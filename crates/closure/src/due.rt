@@ -9,7 +9,8 @@ ghost use Rattle.board.specs.Paper.Facts.{Known};
 ghost use Rattle.board.specs.Paper.Limits.{jobLimit};
 ghost use Rattle.board.specs.Paper.Values.{factOf};
 
-// A job whose window was moved on one side. A valid one moves the jobs on its other side.
+// A job whose window was moved on one side. A valid one moves the jobs on its other side, which are asked before all that follows: a
+// contradiction there is the nearest.
 fn moved<'a>(
     side: Side,
     job: usize,
@@ -25,11 +26,11 @@ fn moved<'a>(
     match side {
         Side::Early => {
             due.raised = it;
-            due.after_raised = if pushes { after[job] } else { 0 };
+            due.early = if pushes { after[job] } else { 0 };
         }
         Side::Late => {
             due.lowered = it;
-            due.before_lowered = if pushes { before[job] } else { 0 };
+            due.late = if pushes { before[job] } else { 0 };
         }
     }
     due

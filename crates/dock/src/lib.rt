@@ -1,7 +1,7 @@
 // A dock with its board, and the calls that the paper names: the board goes in and comes back with the answer.
 use board::Board;
 use board::Refusal;
-use closure::check::passes;
+use check0::passes;
 use entries::Entered;
 use entries::PairAnswer;
 use entries::RowAnswer;

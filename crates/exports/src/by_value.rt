@@ -15,7 +15,7 @@ ghost use Rattle.exports.specs.Replies.{rowReply, pairReply, planReply};
 pub fn passes(dock: Dock) -> bool
     ensures { λ r. ⌜ r ≡ check.passes (dock .board) ⌝ }
 {
-    closure::check::passes(dock.board)
+    check0::passes(dock.board)
 }
 
 pub fn row(dock: Dock, job: i32) -> RowReply

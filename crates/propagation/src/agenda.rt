@@ -3,9 +3,10 @@ use board::facts::Side;
 use ordering::ends::Ends;
 use precedence::Pushed;
 
-// The jobs with a new one before them, whose E it may move (R4), and those with a new one after them, whose D it may move (R5). The jobs
-// after a raised one and before a lowered one, which move only seldom, since most arcs have room to spare. The jobs that have moved
-// (R6, R3). Those through which R1 may join others, and those that may have arcs both ways to another (R2). The side whose turn it is.
+// The jobs with a new one before them, whose E it may move (R4), and those with a new one after them, whose D it may move (R5); with them the
+// neighbours of a job that a fact moves. The jobs after a raised one and before a lowered one, which move only seldom, since most arcs
+// have room to spare. The jobs that have moved (R6, R3). Those through which R1 may join others, and those that may have arcs both ways to
+// another (R2). The side whose turn it is.
 pub struct Agenda {
     pub early: u64,
     pub late: u64,

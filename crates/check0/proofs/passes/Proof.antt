@@ -1,4 +1,4 @@
--- `closure::check::passes` meets its contract: the test of check 0 holds exactly of the boards within their limits that obey the
+-- `check0::passes` meets its contract: the test of check 0 holds exactly of the boards within their limits that obey the
 -- rules. Assumes nothing.
 use mathlib.Core.Path.{sym, ap, _∙_}
 use borrow.Author.Needs.{needs}
@@ -11,10 +11,10 @@ use Rattle.board.specs.Inference.Infers.{Obeys}
 use Rattle.board.specs.Tests.LimitsDecided.{limits-yes, limits-show}
 use Rattle.rules.specs.Searched.{Searched}
 use Rattle.rules.specs.Values.{inferredOf}
 use Rattle.closure.specs.Reads.{arrays-hold, board-read}
 use Rattle.closure.specs.Checked.{passes-within, passes-obeys, obeys-passes}
-use Rattle.closure.proofs.check.passes.Statement.{statement}
-use Rattle.closure.proofs.check.passes.Tie as tie
+use Rattle.check0.proofs.passes.Statement.{statement}
+use Rattle.check0.proofs.passes.Tie as tie
 
 within-limits-requires : tie.Need-within-limits-requires
 within-limits-requires c κs = search needs
