@@ -72,15 +72,15 @@ fn whole(side: Side, times: &[i32; Board::JOBS], lengths: &[i32; Board::JOBS], s
     let mut left = set;
     while left != 0 {
         let k = words::lowest(left);
-        left = words::rest(left, k);
+        left = words::without_lowest(left, k);
         least = minutes::lesser(least, bound(side, times, k));
         total = minutes::sum(total, lengths[k]);
     }
     Play { set, least, total }
 }
 
-// One pass over the jobs in play, from the least number on or, where it is falling, from the greatest: a job is struck where its bound, with the
-// lengths of all that are still in play, can't beat the best.
+// One pass over the jobs in play, upward or downward: a job is struck where its bound, with the lengths of all that are still in play,
+// can't beat the best. The direction is free: no contract speaks of it.
 fn strike(
     side: Side,
     times: &[i32; Board::JOBS],
@@ -88,7 +88,7 @@ fn strike(
     set: u64,
     load: i32,
     best: i32,
-    falling: bool,
+    downward: bool,
 ) -> Play
     requires { ⌜ energy.Times (now times) ⌝ }
     requires { ⌜ energy.Lengths (now lengths) ⌝ }
@@ -102,8 +102,8 @@ fn strike(
     let mut total = load;
     let mut left = set;
     while left != 0 {
-        let k = words::next(left, falling);
-        left = words::remaining(left, k, falling);
+        let k = words::next(left, downward);
+        left = words::without_next(left, k, downward);
         let low = bound(side, times, k);
         if minutes::sum(low, total) <= best {
             kept = words::without(kept, k);
@@ -121,8 +121,7 @@ fn strike(
 
 // The greatest sum of a set of jobs, where it is above the floor, a time. Over the jobs still in play take their least bound and all
 // their lengths, keep the greatest such sum, strike jobs whose bound can't beat it any more, and repeat. The floor is the first to
-// be beaten, so that where no sum is above it, one pass strikes all. A pass strikes many where the bounds rise along it, so the passes go
-// up and down in turn.
+// be beaten. A pass strikes many where the bounds rise along it, so the passes go up and down in turn.
 pub fn energy_bound(
     side: Side,
     times: &[i32; Board::JOBS],
@@ -136,11 +135,11 @@ pub fn energy_bound(
     let low = turned(side, floor);
     let mut best = low;
     let mut play = whole(side, times, lengths, set);
-    let mut falling = false;
+    let mut downward = false;
     while play.set != 0 {
         best = minutes::greater(best, minutes::sum(play.least, play.total));
-        play = strike(side, times, lengths, play.set, play.total, best, falling);
-        falling = !falling;
+        play = strike(side, times, lengths, play.set, play.total, best, downward);
+        downward = !downward;
     }
     above(side, low, best)
 }

@@ -13,7 +13,7 @@ pub fn excluded<'a>(set: u64, before: &'a [u64; Board::JOBS], after: &'a [u64; B
     let mut left = set;
     while left != 0 {
         let k = words::lowest(left);
-        left = words::rest(left, k);
+        left = words::without_lowest(left, k);
         found = words::union(found, words::intersection(before[k], after[k]));
     }
     found
@@ -33,7 +33,7 @@ pub fn unfit<'a>(
     let mut left = set;
     while left != 0 {
         let k = words::lowest(left);
-        left = words::rest(left, k);
+        left = words::without_lowest(left, k);
         let window = Window {
             earliest: earliest[k],
             latest: latest[k],

@@ -76,7 +76,7 @@ fn detect_beside<'a>(
     let mut left = others;
     while left != 0 {
         let k = words::lowest(left);
-        left = words::rest(left, k);
+        left = words::without_lowest(left, k);
         detect_on(side, before, after, job, k, earliest, latest, lengths);
     }
     let into = words::difference(before[job], known_before);
@@ -113,7 +113,7 @@ fn detect_each<'a>(
     let mut left = due;
     while left != 0 {
         let job = words::lowest(left);
-        left = words::rest(left, job);
+        left = words::without_lowest(left, job);
         let apart = kept_apart(job, valid, words::union(before[job], after[job]));
         let near = words::difference(words::without(others, job), apart);
         let new = detect_beside(side, before, after, job, near, earliest, latest, lengths);
@@ -131,7 +131,7 @@ fn last_end(side: Side, set: u64, times: &[i32; Board::JOBS], lengths: &[i32; Bo
     let mut left = set;
     while left != 0 {
         let k = words::lowest(left);
-        left = words::rest(left, k);
+        left = words::without_lowest(left, k);
         last = minutes::greater(last, end(side, times, lengths, k));
     }
     last
@@ -152,7 +152,7 @@ fn clashing(
     let mut left = set;
     while left != 0 {
         let k = words::lowest(left);
-        left = words::rest(left, k);
+        left = words::without_lowest(left, k);
         if 0 < minutes::sum(limit, end(side, times, lengths, k)) {
             found = words::with(found, k);
         }
@@ -164,7 +164,7 @@ fn clashing(
 fn is_single(set: u64) -> bool
     requires { ⌜ set ≢ 0 ⌝ }
 {
-    words::without(set, words::lowest(set)) == 0
+    words::without_lowest(set, words::lowest(set)) == 0
 }
 
 // The live jobs to which those that are due may get arcs. For one that is due all are tested; for many the last of their ends

@@ -73,7 +73,7 @@ fn joining_each<'a>(
     let mut left = set;
     while left != 0 {
         let next = words::lowest(left);
-        left = words::rest(left, next);
+        left = words::without_lowest(left, next);
         found = words::union(found, joining(job, next, beyond, opposite));
     }
     found

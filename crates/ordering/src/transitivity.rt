@@ -29,7 +29,7 @@ fn join(
     let mut left = missing;
     while left != 0 {
         let to = words::lowest(left);
-        left = words::rest(left, to);
+        left = words::without_lowest(left, to);
         link(before, after, from, to);
     }
     missing
@@ -50,7 +50,7 @@ fn join_through(
     let mut left = sources;
     while left != 0 {
         let from = words::lowest(left);
-        left = words::rest(left, from);
+        left = words::without_lowest(left, from);
         let new = join(before, after, from, through, live);
         found = all_ends(found, joined_at(from, new, before, after));
     }
@@ -70,7 +70,7 @@ pub fn join_arcs(
     let mut left = middles;
     while left != 0 {
         let through = words::lowest(left);
-        left = words::rest(left, through);
+        left = words::without_lowest(left, through);
         let sources = words::intersection(before[through], live);
         let new = join_through(before, after, sources, through, live);
         found = all_ends(found, new);

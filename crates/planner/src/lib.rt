@@ -97,7 +97,7 @@ fn search(board: Board, valid: u64, budget: u32) -> Planned
             }
             tries += 1;
             let job = words::lowest(left);
-            left = words::rest(left, job);
+            left = words::without_lowest(left, job);
             let start = minutes::greater(board.earliest[job], free);
             let end = minutes::sum(start, board.lengths[job]);
             if places(board.before[job], unplaced, end, board.latest[job]) {

@@ -47,7 +47,7 @@ fn unpushed(set: u64, pushing: u64, beyond: &[u64; Board::JOBS]) -> u64 {
     let mut left = set;
     while left != 0 {
         let k = words::lowest(left);
-        left = words::rest(left, k);
+        left = words::without_lowest(left, k);
         if words::intersection(beyond[k], pushing) == 0 {
             found = words::with(found, k);
         }
@@ -216,7 +216,7 @@ pub fn push<'a>(
     let mut left = set;
     while left != 0 {
         let job = words::lowest(left);
-        left = words::rest(left, job);
+        left = words::without_lowest(left, job);
         let leading = leading_to(side, job, known, times, lengths, beyond, opposite, valid);
         let step = push_job(side, job, leading, times, fixed, lengths, opposite, valid);
         known = lasting(leading, job);

@@ -65,7 +65,7 @@ fn other(side: Side) -> Side {
     }
 }
 
-// The jobs with new ones beyond them on that side.
+// The jobs on that side with new ones beyond them, and the neighbours of a job that a fact moves.
 fn new_on(left: Agenda, side: Side) -> u64 {
     match side {
         Side::Early => left.early,
@@ -81,8 +81,8 @@ fn behind_on(left: Agenda, side: Side) -> u64 {
     }
 }
 
-// On which side jobs are to move next. Those with new ones beyond them come first, on either side, since these do move, and may have moved
-// further by the time that the others are asked. The sides take turns, so that long work on one doesn't put off a contradiction on the other.
+// On which side jobs are to move next. Those of `new_on` come first, on either side: with new ones beyond them they do move, and may have moved
+// further by the time that the others are asked; next to a fact they show the nearest contradiction. The sides take turns, so that long work on one doesn't put off a contradiction on the other.
 pub fn next_side(left: Agenda) -> Side {
     let first = if left.late_next {
         Side::Late

@@ -1,8 +1,8 @@
 -- The bound that the valid jobs beyond a job leave to it, over numbers and words: the sums of these jobs, or a last one of them where all
 -- others lie beyond it.
-use mathlib.Core.Path.{_≡_, ap, _∙_, subst}
+use mathlib.Core.Path.{_≡_, refl, ap, _∙_, subst}
 use mathlib.Core.Logic.{_≢_, _⊎_, inl, inr}
-use mathlib.Core.Bool.{true}
+use mathlib.Core.Bool.{Bool, true, false}
 use mathlib.Core.List.{List}
 use mathlib.Core.Option.{Option, none, some}
 use Prim.Native.Nat.{ℕ, _<_, _^_}
@@ -27,7 +27,7 @@ Apart w k word r = (x : ℕ) → Decides (bit r x) (((bit w x ≡ true) × (k �
 pub record LastUnder (s : Side) (times lengths : List ℤ) (beyond : List ℕ) (w j : ℕ) : Type 0 where
   pub last : ℕ
   pub member : bit w last ≡ true
-  pub none-apart : Apart w last (getD beyond last 0) 0
+  pub others : (x : ℕ) → bit w x ≡ true → last ≢ x → bit (getD beyond last 0) x ≡ true
   pub ends : endAt s times lengths last ≤ℤ boundAt s times j
 
 -- What an answer says of the jobs w beyond job j. A bound is a sum above j's own. Where there is none, no sum is above it, or the last
@@ -55,13 +55,20 @@ module _ (s : Side) (times lengths : List ℤ) (beyond : List ℕ) (j w : ℕ) w
   none-there e = inl λ z p. absurd (refuted (ap (λ x. bit x (p .first)) e ∙ bit-zero (p .first)) (p .inside (p .first) (p .member)))
 
   -- the last one alone, where none stands apart
-  pub last-alone : (k rest : ℕ) → k < jobLimit → bit w k ≡ true → Apart w k (getD beyond k 0) rest → rest ≡ 0
+  pub last-alone : (k r : ℕ) → k < jobLimit → bit w k ≡ true → Apart w k (getD beyond k 0) r → r ≡ 0
       → Says s times lengths beyond w j (over (boundAt s times j) (endAt s times lengths k))
-  last-alone k rest place member apart none-apart =
+  last-alone k r place member apart none-apart =
       let end = endAt s times lengths k in
       by-test (Says s times lengths beyond w j) (ltZ (boundAt s times j) end) (some end) none
       (λ e. (single s times lengths w k place member, omega whole))
-      (λ e. inr (record { last = k; member = member; none-apart = subst (Apart w k (getD beyond k 0)) none-apart apart; ends = omega whole }))
+      (λ e. inr (record { last = k; member = member; others = others; ends = omega whole }))
+    where
+      others : (x : ℕ) → bit w x ≡ true → k ≢ x → bit (getD beyond k 0) x ≡ true
+      others x i ne = go (bit (getD beyond k 0) x) refl
+        where
+          go : (t : Bool) → bit (getD beyond k 0) x ≡ t → t ≡ true
+          go true e = refl
+          go false e = absurd (refuted (ap (λ y. bit y x) none-apart ∙ bit-zero x) (apart x .show ((i, ne), refuted e)))
 
   -- all sums
   pub all-sums : (o : Option ℤ) → Exceeds (Sum s times lengths w) (boundAt s times j) o → Says s times lengths beyond w j o

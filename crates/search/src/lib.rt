@@ -51,7 +51,7 @@ fn find_pair<'a>(
     let mut rows = live;
     'pairs: while rows != 0 {
         let i = words::lowest(rows);
-        rows = words::rest(rows, i);
+        rows = words::without_lowest(rows, i);
         let end = earliest_end(i, earliest, lengths);
         let into = before[i];
         let out = after[i];
@@ -69,7 +69,7 @@ fn find_pair<'a>(
         );
         while others != 0 {
             let k = words::lowest(others);
-            others = words::rest(others, k);
+            others = words::without_lowest(others, k);
             let late = ends_late(k, end, latest, lengths);
             if applies(i, k, valid, out, into, after[k], late) {
                 found = Pair::At(i, k);
@@ -122,7 +122,7 @@ fn at_jobs<'a>(
     while left != 0 {
         let i = words::lowest(left);
         let done = words::difference(live, left);
-        left = words::rest(left, i);
+        left = words::without_lowest(left, i);
         early = representative(Side::Early, i, early, done, earliest, before, valid);
         late = representative(Side::Late, i, late, done, latest, after, valid);
         let single = at_job(

@@ -23,7 +23,7 @@ pub fn latest_start(set: u64, latest: &[i32; Board::JOBS], lengths: &[i32; Board
     let mut left = set;
     while left != 0 {
         let k = words::lowest(left);
-        left = words::rest(left, k);
+        left = words::without_lowest(left, k);
         least = minutes::lesser(least, minutes::gap(latest[k], lengths[k]));
     }
     least
@@ -53,7 +53,7 @@ fn late(set: u64, end: i32, latest: &[i32; Board::JOBS], lengths: &[i32; Board::
         if ends_late(k, end, latest, lengths) {
             return left;
         }
-        left = words::rest(left, k);
+        left = words::without_lowest(left, k);
     }
     left
 }
@@ -116,7 +116,7 @@ fn reach(set: u64, after: &[u64; Board::JOBS]) -> u64
     while left != 0 {
         let k = words::lowest(left);
         all = words::union(all, after[k]);
-        left = words::difference(words::rest(left, k), all);
+        left = words::difference(words::without_lowest(left, k), all);
     }
     all
 }

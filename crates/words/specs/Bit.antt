@@ -49,7 +49,7 @@ pub record Highest (n w k : ℕ) : Type 0 where
   pub member : bit w k ≡ true
   pub greatest : (j : ℕ) → k < j → bit w j ≡ false
 
--- k is the next job of a walk over the set w: its least member or, where the walk is falling, its greatest
+-- k is the next job of a walk over the set w: its least member or, on a walk downward, its greatest
 unfoldable pub Next : ℕ → Bool → ℕ → ℕ → Type 0
 Next n false w k = Lowest n w k
 Next n true w k = Highest n w k

@@ -46,12 +46,12 @@ leading-highest n w h l =
     let place : n - 1 - leadingZeros n w ≡ j = omega (arith, zeros) in
     subst⁻¹ (Highest n w) place (record { width = omega (arith, zeros); member = bit-top w j low high; greatest = λ k b. bit-high (suc j) w k high b })
 
-pub next-width : (n : ℕ) (falling : Bool) (w k : ℕ) → Next n falling w k → k < n
+pub next-width : (n : ℕ) (downward : Bool) (w k : ℕ) → Next n downward w k → k < n
 unfolding Next
 next-width n false w k at = at .width
 next-width n true w k at = at .width
 
-pub next-member : (n : ℕ) (falling : Bool) (w k : ℕ) → Next n falling w k → bit w k ≡ true
+pub next-member : (n : ℕ) (downward : Bool) (w k : ℕ) → Next n downward w k → bit w k ≡ true
 unfolding Next
 next-member n false w k at = at .member
 next-member n true w k at = at .member
@@ -124,8 +124,8 @@ lowest-some {k = k} low none =
     omega arith
 
 -- a word and one less than it share all but the least member
-pub rest-without : (n w k : ℕ) → w < 2 ^ n → Lowest n w k → intersection w (w - 1) ≡ without n w k
-rest-without n w k fits low = bit-ext (intersection w (w - 1)) (without n w k) λ j. bit-intersection w (w - 1) j ∙ go j (ℕ-discrete j k)
+pub less-without : (n w k : ℕ) → w < 2 ^ n → Lowest n w k → intersection w (w - 1) ≡ without n w k
+less-without n w k fits low = bit-ext (intersection w (w - 1)) (without n w k) λ j. bit-intersection w (w - 1) j ∙ go j (ℕ-discrete j k)
   where
     both : (s t : Bool) → (s ≡ true → t ≡ true) → (s && t) ≡ s
     both true t h = h refl

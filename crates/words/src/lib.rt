@@ -1,4 +1,4 @@
-// Sets of at most 64 jobs, each set one word with bit k for job k: test, union and clearing by shift and mask.
+// Sets of at most 64 jobs, each set one word with bit k for job k: test, union and clearing by shift and mask, and walks from either end.
 ghost use mathlib.Core.Path.{_≡_};
 ghost use mathlib.Core.Logic.{_≢_};
 ghost use Prim.Native.Nat.{_<_};
@@ -65,32 +65,32 @@ pub fn highest(w: u64) -> usize
     63 - u64::leading_zeros(w) as usize
 }
 
-// The set w with its least job k taken out. A walk needs no shift by k here, and goes on before k is known.
-pub fn rest(w: u64, k: usize) -> u64
+// The set w with its least job k taken out. The code has no need of k, so that a walk goes on before it is known; the contract has.
+pub fn without_lowest(w: u64, k: usize) -> u64
     requires { ⌜ sets.Lowest sets.width w k ⌝ }
     ensures { λ r. ⌜ r ≡ sets.without sets.width w k ⌝ }
 {
     w & (w - 1)
 }
 
-// The next job of a walk over a set that has one: its least or, where the walk is falling, its greatest.
-pub fn next(w: u64, falling: bool) -> usize
+// The next job of a walk over a set that has one: its least or, on a walk downward, its greatest.
+pub fn next(w: u64, downward: bool) -> usize
     requires { ⌜ w ≢ 0 ⌝ }
-    ensures { λ r. ⌜ sets.Next sets.width falling w r ⌝ }
+    ensures { λ r. ⌜ sets.Next sets.width downward w r ⌝ }
 {
-    if falling {
+    if downward {
         return highest(w);
     }
     lowest(w)
 }
 
-// What the walk has left: the set w with its next job k taken out.
-pub fn remaining(w: u64, k: usize, falling: bool) -> u64
-    requires { ⌜ sets.Next sets.width falling w k ⌝ }
+// The set w with the next job k of such a walk taken out.
+pub fn without_next(w: u64, k: usize, downward: bool) -> u64
+    requires { ⌜ sets.Next sets.width downward w k ⌝ }
     ensures { λ r. ⌜ r ≡ sets.without sets.width w k ⌝ }
 {
-    if falling {
+    if downward {
         return without(w, k);
     }
-    rest(w, k)
+    without_lowest(w, k)
 }

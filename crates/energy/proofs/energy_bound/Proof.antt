@@ -15,13 +15,13 @@ use Rattle.energy.proofs.energy_bound.Statement.{statement}
 use Rattle.energy.proofs.energy_bound.Tie as tie
 
 abbrev Inv-loop : tie.InvT-loop
-Inv-loop side times lengths set floor low best₀ play₀ falling₀ best play falling =
+Inv-loop side times lengths set floor low best₀ play₀ downward₀ best play downward =
     InPlay (sideOf side) times lengths set (play .set) (toZ w32 best)
     × Best (sideOf side) times lengths set (toZ w32 low) (toZ w32 best)
     × Comes (sideOf side) times lengths (play .set) (play .least) (play .total)
 
 abbrev μ-loop : tie.MeasureT-loop
-μ-loop side times lengths set floor low best₀ play₀ falling₀ best play falling = play .set
+μ-loop side times lengths set floor low best₀ play₀ downward₀ best play downward = play .set
 
 turned-requires : tie.Need-turned-requires Inv-loop μ-loop
 turned-requires c κs = search needs

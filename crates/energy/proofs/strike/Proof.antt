@@ -48,19 +48,19 @@ module _ {s : Side} {times lengths : List ℤ} {best : ℤ} {set : ℕ} (fits : 
     all-tested : left ≡ 0 → Beats s times lengths best set kept
     all-tested empty = record { over = λ k e. p .over k e (ap (λ w. bit w k) empty ∙ bit-zero k) }
 
-    module _ (k : ℕ) (width : k < jobLimit) (next : bit left k ≡ true) where
+    module _ (k : ℕ) (width : k < jobLimit) (waiting : bit left k ≡ true) where
       strike : leZ (boundAt s times k +ℤ all) best ≡ true
           → Tested s times lengths best set (without jobLimit kept k) (without jobLimit left k) low (all -ℤ lengthAt lengths k)
       strike e =
-          let member = p .passed .inside k next in
+          let member = p .passed .inside k waiting in
           let less = load lengths (without jobLimit kept k) in
           let length = lengthAt lengths k in
           let fewer = total-without jobLimit kept k (p .passed .fits) width member (lengthAt lengths) in
           let under : (boundAt s times k +ℤ load lengths kept) ≤ℤ best = omega (whole, p .loaded, plus (boundAt s times k) all, plus (boundAt s times k) (load lengths kept)) in
           record {
-            passed = pass-struck (p .passed) k width next;
+            passed = pass-struck (p .passed) k width waiting;
             strikes = struck kept k (p .strikes) width member under;
-            over = kept-passed (p .passed) k width next (λ j. best <ℤ (boundAt s times j +ℤ load lengths set)) (p .over);
+            over = kept-passed (p .passed) k width waiting (λ j. best <ℤ (boundAt s times j +ℤ load lengths set)) (p .over);
             loaded = omega (whole, p .loaded, fewer, plus length less, plus all (negℤ length), minus length);
           }
 
@@ -71,18 +71,18 @@ module _ {s : Side} {times lengths : List ℤ} {best : ℤ} {set : ℕ} (fits : 
           let within = total-subset jobLimit (bit kept) (bit set) (lengthAt lengths) (λ j m. inside j) (λ j m h. work .low j) in
           let beaten : best <ℤ (boundAt s times k +ℤ load lengths set) = omega (whole, p .loaded, within, plus (boundAt s times k) all, plus (boundAt s times k) (load lengths set)) in
           record {
-            passed = pass (p .passed) k width next;
+            passed = pass (p .passed) k width waiting;
             strikes = p .strikes;
             over = taken-out jobLimit left k (p .passed .left-fits) width (λ j. best <ℤ (boundAt s times j +ℤ load lengths set)) (λ j. bit kept j ≡ true) (p .over) beaten;
             loaded = p .loaded;
           }
 
 abbrev Inv-loop : tie.InvT-loop
-Inv-loop side times lengths set load best falling kept₀ least₀ total₀ left₀ kept least total left =
+Inv-loop side times lengths set load best downward kept₀ least₀ total₀ left₀ kept least total left =
     Tested (sideOf side) times lengths (toZ w32 best) set kept left (toZ w32 least) (toZ w32 total)
 
 abbrev μ-loop : tie.MeasureT-loop
-μ-loop side times lengths set load best falling kept₀ least₀ total₀ left₀ kept least total left = left
+μ-loop side times lengths set load best downward kept₀ least₀ total₀ left₀ kept least total left = left
 
 loop-holds : tie.Need-loop-holds Inv-loop μ-loop
 loop-holds c = none-tested (c .fits .set .fits) _ (toZ-ofZ w32 _ (c .fits .load) ∙ c .pre .1 .1)
@@ -90,8 +90,8 @@ loop-holds c = none-tested (c .fits .set .fits) _ (toZ-ofZ w32 _ (c .fits .load)
 next-requires : tie.Need-next-requires Inv-loop μ-loop
 next-requires c κs = c .loop-test .taken
 
-remaining-requires : tie.Need-remaining-requires Inv-loop μ-loop
-remaining-requires c κs = c .next .ensures
+without-next-requires : tie.Need-without-next-requires Inv-loop μ-loop
+without-next-requires c κs = c .next .ensures
 
 bound-requires : tie.Need-bound-requires Inv-loop μ-loop
 bound-requires c κs = (c .before .before .before .before .pre .0, next-width _ _ _ _ (c .before .next .ensures))
@@ -141,7 +141,7 @@ loop-less : tie.Need-loop-less Inv-loop μ-loop
 loop-less c =
     let s = c .before .before .before .before .before .before in
     let at = s .before .next .ensures in
-    rw (s .remaining .ensures) (without-falls _ _ _ (s .before .before .before .loop .inv .passed .left-fits) (next-width _ _ _ _ at) (next-member _ _ _ _ at))
+    rw (s .without-next .ensures) (without-falls _ _ _ (s .before .before .before .loop .inv .passed .left-fits) (next-width _ _ _ _ at) (next-member _ _ _ _ at))
 
 loop-again : tie.Need-loop-again Inv-loop μ-loop
 loop-again c =
@@ -151,7 +151,7 @@ loop-again c =
     let at = s .before .before .before in
     let start = at .before in
     let less = simp (toZ-ofZ, length-fits (start .pre .1 .0) (low .result)) at (c .gap .ensures) in
-    rw (s .remaining .ensures, c .before .before .without .ensures, toZ-ofZ w32 (c .gap .result) (record { sfits = c .gap .ok }), less)
+    rw (s .without-next .ensures, c .before .before .without .ensures, toZ-ofZ w32 (c .gap .result) (record { sfits = c .gap .ok }), less)
     (strike (start .fits .set .fits) (at .loop .inv) (low .result) (next-width _ _ _ _ (low .ensures)) (next-member _ _ _ _ (low .ensures)) (rw (sum-is (t .before)) at (t .if1 .taken)))
 
 lesser-requires : tie.Need-lesser-requires Inv-loop μ-loop
@@ -161,7 +161,7 @@ loop-less-2 : tie.Need-loop-less-2 Inv-loop μ-loop
 loop-less-2 c =
     let s = c .before .before .before .before in
     let at = s .before .next .ensures in
-    rw (s .remaining .ensures) (without-falls _ _ _ (s .before .before .before .loop .inv .passed .left-fits) (next-width _ _ _ _ at) (next-member _ _ _ _ at))
+    rw (s .without-next .ensures) (without-falls _ _ _ (s .before .before .before .loop .inv .passed .left-fits) (next-width _ _ _ _ at) (next-member _ _ _ _ at))
 
 loop-again-2 : tie.Need-loop-again-2 Inv-loop μ-loop
 loop-again-2 c =
@@ -172,7 +172,7 @@ loop-again-2 c =
     let start = at .before in
     let d = c .lesser in
     let least = toZ-ofZ w32 (d .result) (record { sfits = d .ok }) ∙ (rw (low-is (e .before .before)) at (d .ensures)) in
-    rw (s .remaining .ensures, least)
+    rw (s .without-next .ensures, least)
     (keep (start .fits .set .fits) (at .loop .inv) (low .result) (next-width _ _ _ _ (low .ensures)) (next-member _ _ _ _ (low .ensures)) (start .pre .1 .0) (rw (sum-is (e .before)) at (e .if1 .left)))
 
 returns : tie.Need-returns Inv-loop μ-loop
@@ -194,7 +194,7 @@ strike-spec =
     μ-loop
     loop-holds
     next-requires
-    remaining-requires
+    without-next-requires
     bound-requires
     sum-requires
     without-requires

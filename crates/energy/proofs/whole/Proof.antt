@@ -69,8 +69,8 @@ loop-holds c =
 lowest-requires : tie.Need-lowest-requires Inv-loop μ-loop
 lowest-requires c κs = c .loop-test .taken
 
-rest-requires : tie.Need-rest-requires Inv-loop μ-loop
-rest-requires c κs = c .lowest .ensures
+without-lowest-requires : tie.Need-without-lowest-requires Inv-loop μ-loop
+without-lowest-requires c κs = c .lowest .ensures
 
 bound-requires : tie.Need-bound-requires Inv-loop μ-loop
 bound-requires c κs = (c .before .before .before .before .pre .0, c .before .lowest .ensures .width)
@@ -95,7 +95,7 @@ sum-requires c κs =
 loop-less : tie.Need-loop-less Inv-loop μ-loop
 loop-less c =
     let s = c .before .before .before .before in
-    walk-falls (s .before .before .before .loop .inv .passed .left-fits) (s .before .lowest .ensures) (s .rest .ensures)
+    walk-falls (s .before .before .before .loop .inv .passed .left-fits) (s .before .lowest .ensures) (s .without-lowest .ensures)
 
 loop-again : tie.Need-loop-again Inv-loop μ-loop
 loop-again c =
@@ -107,7 +107,7 @@ loop-again c =
     let bound-is = toZ-ofZ w32 (b .result) (record { sfits = b .ok }) ∙ b .ensures in
     let least = toZ-ofZ w32 (d .result) (record { sfits = d .ok }) ∙ (rw bound-is at (d .ensures)) in
     let sum = simp (toZ-ofZ, length-fits (at .before .pre .1) (low .result)) at (c .sum .ensures) in
-    rw (s .rest .ensures, least, toZ-ofZ w32 (c .sum .result) (record { sfits = c .sum .ok }), sum)
+    rw (s .without-lowest .ensures, least, toZ-ofZ w32 (c .sum .result) (record { sfits = c .sum .ok }), sum)
     (add (at .loop .inv) (low .result) (low .ensures))
 
 returns : tie.Need-returns Inv-loop μ-loop
@@ -121,7 +121,7 @@ whole-spec =
     μ-loop
     loop-holds
     lowest-requires
-    rest-requires
+    without-lowest-requires
     bound-requires
     lesser-requires
     mul-sum

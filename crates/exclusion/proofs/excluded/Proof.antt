@@ -20,8 +20,8 @@ loop-holds c = (to-come (c .fits .set .fits) (λ x e. e), crossed-none _ _ _)
 lowest-requires : tie.Need-lowest-requires Inv-loop μ-loop
 lowest-requires c κs = search needs
 
-rest-requires : tie.Need-rest-requires Inv-loop μ-loop
-rest-requires c κs = search needs
+without-lowest-requires : tie.Need-without-lowest-requires Inv-loop μ-loop
+without-lowest-requires c κs = search needs
 
 mul-intersection : tie.Need-mul-intersection Inv-loop μ-loop
 mul-intersection c = search needs
@@ -44,14 +44,14 @@ union-requires c κs = search needs
 loop-less : tie.Need-loop-less Inv-loop μ-loop
 loop-less c =
     let walk = c .before .before .before .before in
-    fewer (walk .before .before .before .loop .inv .0) (walk .before .lowest .ensures) (walk .rest .ensures) .1
+    fewer (walk .before .before .before .loop .inv .0) (walk .before .lowest .ensures) (walk .without-lowest .ensures) .1
 
 loop-again : tie.Need-loop-again Inv-loop μ-loop
 loop-again c =
     let walk = c .before .before .before .before in
     let (left, found) = walk .before .before .before .loop .inv in
     let low = walk .before .lowest .ensures in (
-      fewer left low (walk .rest .ensures) .0,
+      fewer left low (walk .without-lowest .ensures) .0,
       crossed-more _ _ _ _ _ found (left .member _ (low .member)) _ _ (c .before .intersection .ensures) (c .union .ensures),
     )
 
@@ -66,7 +66,7 @@ excluded-spec =
     μ-loop
     loop-holds
     lowest-requires
-    rest-requires
+    without-lowest-requires
     mul-intersection
     element-copy-out-intersection
     mul-intersection-2

@@ -35,7 +35,7 @@ holds-requires c κs =
 loop-less : tie.Need-loop-less Inv-loop μ-loop
 loop-less c =
     let walk = c .before .before .before .before .before .before in
-    fewer (walk .before .before .before .loop .inv .0) (walk .before .lowest .ensures) (walk .rest .ensures) .1
+    fewer (walk .before .before .before .loop .inv .0) (walk .before .lowest .ensures) (walk .without-lowest .ensures) .1
 
 loop-again : tie.Need-loop-again Inv-loop μ-loop
 loop-again c =
@@ -48,18 +48,18 @@ loop-again c =
     let k = low .result in
     let latest : SFits w32 (getD (at .before .args .latest .now) k (pos 0)) = record { sfits = test .before .before .holds-arg .given } in
     let short = simp (toZ-ofZ, time-fits (hours .time k), length-fits work k, latest) at (rw (not-true (test .holds .result) (c .before .if1 .taken)) at (test .holds .ensures)) in
-    (fewer left (low .ensures) (walk .rest .ensures) .0, rw (c .with .ensures) (unfit-more _ _ _ _ _ _ found (left .member _ (low .ensures .member)) (sym short)))
+    (fewer left (low .ensures) (walk .without-lowest .ensures) .0, rw (c .with .ensures) (unfit-more _ _ _ _ _ _ found (left .member _ (low .ensures .member)) (sym short)))
 
 loop-less-2 : tie.Need-loop-less-2 Inv-loop μ-loop
 loop-less-2 c =
     let walk = c .before .before .before .before .before in
-    fewer (walk .before .before .before .loop .inv .0) (walk .before .lowest .ensures) (walk .rest .ensures) .1
+    fewer (walk .before .before .before .loop .inv .0) (walk .before .lowest .ensures) (walk .without-lowest .ensures) .1
 
 loop-again-2 : tie.Need-loop-again-2 Inv-loop μ-loop
 loop-again-2 c =
     let walk = c .before .before .before .before .before in
     let (left, found) = walk .before .before .before .loop .inv in
-    (fewer left (walk .before .lowest .ensures) (walk .rest .ensures) .0, found)
+    (fewer left (walk .before .lowest .ensures) (walk .without-lowest .ensures) .0, found)
 
 pub unfit-spec : {M : Type 1} → statement M
 unfit-spec =

@@ -200,8 +200,8 @@ add-tries c = let more = c .if3 .left in record { fits = omega (arith, more, hel
 lowest-requires : tie.Need-lowest-requires Inv-loop μ-loop
 lowest-requires c κs = c .before .if1 .left
 
-rest-requires : tie.Need-rest-requires Inv-loop μ-loop
-rest-requires c κs = c .lowest .ensures
+without-lowest-requires : tie.Need-without-lowest-requires Inv-loop μ-loop
+without-lowest-requires c κs = c .lowest .ensures
 
 mul-greater : tie.Need-mul-greater Inv-loop μ-loop
 mul-greater c = let j = c .before .lowest .ensures .width in record { fits = omega (arith, j) }
@@ -276,7 +276,7 @@ loop-again-2 c =
     let t = c .before .before in
     let e = t .before .before .before in
     let ends : SFits w32 (e .sum .result) = record { sfits = e .sum .ok } in
-    rw (c .without .ensures, e .before .before .before .before .rest .ensures) (simp (toZ-ofZ, ends) (put-in t (c .before .if4 .taken)))
+    rw (c .without .ensures, e .before .before .before .before .without-lowest .ensures) (simp (toZ-ofZ, ends) (put-in t (c .before .if4 .taken)))
 
 loop-less-3 : tie.Need-loop-less-3 Inv-loop μ-loop
 loop-less-3 c =
@@ -288,7 +288,7 @@ loop-again-3 c =
     let n = picked (c .before .before .before .before) in
     let s = head n in
     let more = n .before .if3 .left in
-    rw (c .before .before .before .before .before .before .before .before .rest .ensures)
+    rw (c .before .before .before .before .before .before .before .before .without-lowest .ensures)
     (tried-in-vain _ (s .before .before .pre .0) _ _ _ _ _ _ _ _ _ (held s) (s .loop-test .taken) _ (n .lowest .ensures)
     (omega (arith, more, held s .affordable)) (sym (tested (c .before)) ∙ c .if4 .left))
 
@@ -329,7 +329,7 @@ search-spec =
     returns-2
     add-tries
     lowest-requires
-    rest-requires
+    without-lowest-requires
     mul-greater
     element-copy-out-greater
     greater-requires

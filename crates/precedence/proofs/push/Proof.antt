@@ -50,7 +50,7 @@ push-job-requires c κs =
 loop-less : tie.Need-loop-less Inv-loop μ-loop
 loop-less c =
     let walk = c .before .before .before .before .before .before .before .before in
-    walk-falls (walk .before .before .before .loop .inv .width) (walk .before .lowest .ensures) (walk .rest .ensures)
+    walk-falls (walk .before .before .before .loop .inv .width) (walk .before .lowest .ensures) (walk .without-lowest .ensures)
 
 -- one job more
 loop-again : tie.Need-loop-again Inv-loop μ-loop
@@ -67,7 +67,7 @@ loop-again c =
     let (raised, shut) =
     pushed-on (sideOf (a .side)) _ _ _ _ _ _ _ _ _ _ (inv .raised) (inv .shut) (raises _ is, shuts _ is) (both .both .ensures) in
     record {
-      width = rw (walk .rest .ensures) (without-lt 64 _ _ (inv .width));
+      width = rw (walk .without-lowest .ensures) (without-lt 64 _ _ (inv .width));
       hours = hours;
       leaves = both .before .lasting .ensures (sideOf (a .side)) _ _ _ leaves same;
       raised = raised;

@@ -16,22 +16,22 @@ abbrev μ-loop : tie.MeasureT-loop
 loop-less : tie.Need-loop-less Inv-loop μ-loop
 loop-less c =
     let walk = c .before .before .before .before in
-    walk-falls (walk .before .before .before .loop .inv) (walk .before .lowest .ensures) (walk .rest .ensures)
+    walk-falls (walk .before .before .before .loop .inv) (walk .before .lowest .ensures) (walk .without-lowest .ensures)
 
 loop-again : tie.Need-loop-again Inv-loop μ-loop
 loop-again c =
     let walk = c .before .before .before .before in
-    rw (walk .rest .ensures) (without-lt 64 _ _ (walk .before .before .before .loop .inv))
+    rw (walk .without-lowest .ensures) (without-lt 64 _ _ (walk .before .before .before .loop .inv))
 
 loop-less-2 : tie.Need-loop-less-2 Inv-loop μ-loop
 loop-less-2 c =
     let walk = c .before .before .before in
-    walk-falls (walk .before .before .before .loop .inv) (walk .before .lowest .ensures) (walk .rest .ensures)
+    walk-falls (walk .before .before .before .loop .inv) (walk .before .lowest .ensures) (walk .without-lowest .ensures)
 
 loop-again-2 : tie.Need-loop-again-2 Inv-loop μ-loop
 loop-again-2 c =
     let walk = c .before .before .before in
-    rw (walk .rest .ensures) (without-lt 64 _ _ (walk .before .before .before .loop .inv))
+    rw (walk .without-lowest .ensures) (without-lt 64 _ _ (walk .before .before .before .loop .inv))
 
 pub unpushed-spec : {M : Type 1} → statement M
 unpushed-spec =

@@ -36,8 +36,8 @@ lowest-requires c κs = search needs
 difference-requires : tie.Need-difference-requires Inv-loop μ-loop
 difference-requires c κs = search needs
 
-rest-requires : tie.Need-rest-requires Inv-loop μ-loop
-rest-requires c κs = search needs
+without-lowest-requires : tie.Need-without-lowest-requires Inv-loop μ-loop
+without-lowest-requires c κs = search needs
 
 representative-requires : tie.Need-representative-requires Inv-loop μ-loop
 representative-requires c κs = search needs
@@ -52,7 +52,7 @@ enum-known-single : tie.Need-enum-known-single Inv-loop μ-loop
 enum-known-single c = search needs
 
 -- from the search at a job back to the word without it, to the jobs done, to the turn's begin
-abbrev rest-of : tie.After-at-job Inv-loop μ-loop → tie.After-rest Inv-loop μ-loop
+abbrev rest-of : tie.After-at-job Inv-loop μ-loop → tie.After-without-lowest Inv-loop μ-loop
 rest-of c = c .before .before .before
 
 abbrev done-of : tie.After-at-job Inv-loop μ-loop → tie.After-difference Inv-loop μ-loop
@@ -88,7 +88,7 @@ enum-told c = search needs
 loop-less : tie.Need-loop-less Inv-loop μ-loop
 loop-less c =
     let job = c .before .before in
-    walk-falls (turn-of job .loop .inv .0) (done-of job .before .lowest .ensures) (rest-of job .rest .ensures)
+    walk-falls (turn-of job .loop .inv .0) (done-of job .before .lowest .ensures) (rest-of job .without-lowest .ensures)
 
 loop-again : tie.Need-loop-again Inv-loop μ-loop
 loop-again c =
@@ -96,7 +96,7 @@ loop-again c =
     let low = done-of job .before .lowest in
     let loop = turn-of job .loop in
     let none = ap inferredOf (c .enum-told .given .1) in
-    rw (rest-of job .rest .ensures) (
+    rw (rest-of job .without-lowest .ensures) (
       without-lt jobLimit (loop .left) (low .result) (loop .inv .0),
       job .before .before .representative .ensures .0,
       job .before .representative2 .ensures .0,
@@ -115,7 +115,7 @@ at-jobs-spec =
     loop-holds
     lowest-requires
     difference-requires
-    rest-requires
+    without-lowest-requires
     representative-requires
     representative-requires-2
     at-job-requires

@@ -42,7 +42,7 @@ abbrev μ-pairs : tie.MeasureT-pairs
 abbrev start-of : tie.At-pairs Inv-loop μ-loop Inv-pairs μ-pairs → tie.Start Inv-loop μ-loop Inv-pairs μ-pairs
 start-of c = c .before .before
 
-abbrev walk-of : tie.After-rest Inv-loop μ-loop Inv-pairs μ-pairs → tie.At-pairs Inv-loop μ-loop Inv-pairs μ-pairs
+abbrev walk-of : tie.After-without-lowest Inv-loop μ-loop Inv-pairs μ-pairs → tie.At-pairs Inv-loop μ-loop Inv-pairs μ-pairs
 walk-of c = c .before .before .before
 
 abbrev end-of : tie.At-loop Inv-loop μ-loop Inv-pairs μ-pairs → tie.After-earliest-end Inv-loop μ-loop Inv-pairs μ-pairs
@@ -81,8 +81,8 @@ pairs-holds c = (refl, c .before .fits .live .fits, λ b h. all-left h (c .befor
 lowest-requires : tie.Need-lowest-requires Inv-loop μ-loop Inv-pairs μ-pairs
 lowest-requires c κs = search needs
 
-rest-requires : tie.Need-rest-requires Inv-loop μ-loop Inv-pairs μ-pairs
-rest-requires c κs = search needs
+without-lowest-requires : tie.Need-without-lowest-requires Inv-loop μ-loop Inv-pairs μ-pairs
+without-lowest-requires c κs = search needs
 
 earliest-end-requires : tie.Need-earliest-end-requires Inv-loop μ-loop Inv-pairs μ-pairs
 earliest-end-requires c κs = search needs
@@ -115,7 +115,7 @@ loop-holds c =
 pairs-less : tie.Need-pairs-less Inv-loop μ-loop Inv-pairs μ-pairs
 pairs-less c =
     let row = end-of (c .before) .before in
-    walk-falls (walk-of row .pairs .inv .1) (row .before .lowest .ensures) (row .rest .ensures)
+    walk-falls (walk-of row .pairs .inv .1) (row .before .lowest .ensures) (row .without-lowest .ensures)
 
 pairs-again : tie.Need-pairs-again Inv-loop μ-loop Inv-pairs μ-pairs
 pairs-again c =
@@ -124,7 +124,7 @@ pairs-again c =
     let low = row .before .lowest in
     let i = low .result in
     let inv = c .before .loop .inv in
-    rw (row .rest .ensures) (
+    rw (row .without-lowest .ensures) (
       inv .0,
       without-lt jobLimit (old .rows) i (old .inv .1),
       λ b h. visited jobLimit _ _ (old .rows) i (old .inv .2 b h) (low .ensures)
@@ -134,8 +134,8 @@ pairs-again c =
 lowest-requires-2 : tie.Need-lowest-requires-2 Inv-loop μ-loop Inv-pairs μ-pairs
 lowest-requires-2 c κs = search needs
 
-rest-requires-2 : tie.Need-rest-requires-2 Inv-loop μ-loop Inv-pairs μ-pairs
-rest-requires-2 c κs = search needs
+without-lowest-requires-2 : tie.Need-without-lowest-requires-2 Inv-loop μ-loop Inv-pairs μ-pairs
+without-lowest-requires-2 c κs = search needs
 
 ends-late-requires : tie.Need-ends-late-requires Inv-loop μ-loop Inv-pairs μ-pairs
 ends-late-requires c κs =
@@ -170,14 +170,14 @@ tested c b h =
 loop-less : tie.Need-loop-less Inv-loop μ-loop Inv-pairs μ-pairs
 loop-less c =
     let next = c .before .before .before .before in
-    walk-falls (next .before .before .before .loop .inv .1) (next .before .lowest2 .ensures) (next .rest2 .ensures)
+    walk-falls (next .before .before .before .loop .inv .1) (next .before .lowest2 .ensures) (next .without-lowest2 .ensures)
 
 loop-again : tie.Need-loop-again Inv-loop μ-loop Inv-pairs μ-pairs
 loop-again c =
     let next = c .before .before .before .before in
     let loop = next .before .before .before .loop in
     let low = next .before .lowest2 in
-    rw (next .rest2 .ensures) (
+    rw (next .without-lowest2 .ensures) (
       loop .inv .0,
       without-lt jobLimit (loop .others) (low .result) (loop .inv .1),
       λ b h. visited jobLimit _ _ (loop .others) (low .result) (loop .inv .2 b h) (low .ensures)
@@ -210,7 +210,7 @@ find-pair-spec =
     latest-start-requires
     pairs-holds
     lowest-requires
-    rest-requires
+    without-lowest-requires
     earliest-end-requires
     mul-into
     element-copy-out-into
@@ -221,7 +221,7 @@ find-pair-spec =
     pairs-less
     pairs-again
     lowest-requires-2
-    rest-requires-2
+    without-lowest-requires-2
     ends-late-requires
     mul-applies
     element-copy-out-applies

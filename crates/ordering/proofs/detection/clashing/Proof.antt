@@ -33,25 +33,25 @@ sum-requires c κs =
 loop-less : tie.Need-loop-less Inv-loop μ-loop
 loop-less c =
     let walk = c .before .before .before .before in
-    fewer (walk .before .before .before .loop .inv .0) (walk .before .lowest .ensures) (walk .rest .ensures) .1
+    fewer (walk .before .before .before .loop .inv .0) (walk .before .lowest .ensures) (walk .without-lowest .ensures) .1
 
 loop-again : tie.Need-loop-again Inv-loop μ-loop
 loop-again c =
     let walk = c .before .before .before .before in
     let (left, found) = walk .before .before .before .loop .inv in
     let low = walk .before .lowest .ensures in
-    (fewer left low (walk .rest .ensures) .0, rw (c .with .ensures) (subset-with _ _ _ found (left .member _ (low .member))))
+    (fewer left low (walk .without-lowest .ensures) .0, rw (c .with .ensures) (subset-with _ _ _ found (left .member _ (low .member))))
 
 loop-less-2 : tie.Need-loop-less-2 Inv-loop μ-loop
 loop-less-2 c =
     let walk = c .before .before .before in
-    fewer (walk .before .before .before .loop .inv .0) (walk .before .lowest .ensures) (walk .rest .ensures) .1
+    fewer (walk .before .before .before .loop .inv .0) (walk .before .lowest .ensures) (walk .without-lowest .ensures) .1
 
 loop-again-2 : tie.Need-loop-again-2 Inv-loop μ-loop
 loop-again-2 c =
     let walk = c .before .before .before in
     let (left, found) = walk .before .before .before .loop .inv in
-    (fewer left (walk .before .lowest .ensures) (walk .rest .ensures) .0, found)
+    (fewer left (walk .before .lowest .ensures) (walk .without-lowest .ensures) .0, found)
 
 returns : tie.Need-returns Inv-loop μ-loop
 returns c = c .before .loop .inv .1

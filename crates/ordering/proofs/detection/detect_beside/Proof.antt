@@ -33,8 +33,8 @@ loop-holds c = (to-come (c .before .before .fits .others .fits) (λ x e. e), sou
 lowest-requires : tie.Need-lowest-requires Inv-loop μ-loop
 lowest-requires c κs = search needs
 
-rest-requires : tie.Need-rest-requires Inv-loop μ-loop
-rest-requires c κs = search needs
+without-lowest-requires : tie.Need-without-lowest-requires Inv-loop μ-loop
+without-lowest-requires c κs = search needs
 
 detect-on-requires : tie.Need-detect-on-requires Inv-loop μ-loop
 detect-on-requires c κs = search needs
@@ -42,7 +42,7 @@ detect-on-requires c κs = search needs
 loop-less : tie.Need-loop-less Inv-loop μ-loop
 loop-less c =
     let walk = c .before .before .before in
-    fewer (walk .before .before .before .loop .inv .0) (walk .before .lowest .ensures) (walk .rest .ensures) .1
+    fewer (walk .before .before .before .loop .inv .0) (walk .before .lowest .ensures) (walk .without-lowest .ensures) .1
 
 loop-again : tie.Need-loop-again Inv-loop μ-loop
 loop-again c =
@@ -50,7 +50,7 @@ loop-again c =
     let (left, run) = walk .before .before .before .loop .inv in
     let low = walk .before .lowest .ensures in
     let member = left .member _ (low .member) in
-    (fewer left low (walk .rest .ensures) .0, beside-more _ _ _ _ _ _ _ _ _ run _ member _ _ (c .detect-on .ensures))
+    (fewer left low (walk .without-lowest .ensures) .0, beside-more _ _ _ _ _ _ _ _ _ run _ member _ _ (c .detect-on .ensures))
 
 mul-difference : tie.Need-mul-difference Inv-loop μ-loop
 mul-difference c = search needs
@@ -85,7 +85,7 @@ detect-beside-spec =
     element-copy-out-known-after
     loop-holds
     lowest-requires
-    rest-requires
+    without-lowest-requires
     detect-on-requires
     loop-less
     loop-again

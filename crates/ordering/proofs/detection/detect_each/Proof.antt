@@ -24,8 +24,8 @@ loop-holds c = (to-come (c .before .fits .due .fits) (λ x e. e), sound-none (Me
 lowest-requires : tie.Need-lowest-requires Inv-loop μ-loop
 lowest-requires c κs = search needs
 
-rest-requires : tie.Need-rest-requires Inv-loop μ-loop
-rest-requires c κs = search needs
+without-lowest-requires : tie.Need-without-lowest-requires Inv-loop μ-loop
+without-lowest-requires c κs = search needs
 
 mul-union : tie.Need-mul-union Inv-loop μ-loop
 mul-union c = search needs
@@ -58,13 +58,13 @@ all-ends-requires : tie.Need-all-ends-requires Inv-loop μ-loop
 all-ends-requires c κs = search needs
 
 -- from the end of a turn of the loop back to the job that it took
-abbrev walk-of : tie.After-detect-beside Inv-loop μ-loop → tie.After-rest Inv-loop μ-loop
+abbrev walk-of : tie.After-detect-beside Inv-loop μ-loop → tie.After-without-lowest Inv-loop μ-loop
 walk-of c = c .before .before .before .before .before .before .before .before .before
 
 loop-less : tie.Need-loop-less Inv-loop μ-loop
 loop-less c =
     let walk = walk-of (c .before) in
-    fewer (walk .before .before .before .loop .inv .0) (walk .before .lowest .ensures) (walk .rest .ensures) .1
+    fewer (walk .before .before .before .loop .inv .0) (walk .before .lowest .ensures) (walk .without-lowest .ensures) .1
 
 loop-again : tie.Need-loop-again Inv-loop μ-loop
 loop-again c =
@@ -74,7 +74,7 @@ loop-again c =
     let at = walk .before .before .before in
     let (left, run) = at .loop .inv in
     let low = walk .before .lowest .ensures in (
-      fewer left low (walk .rest .ensures) .0,
+      fewer left low (walk .without-lowest .ensures) .0,
       job-detected _ _ _ _ _ _ _ (at .before .before .fits .others .fits) _ _ run _ _ _ (low .width) (left .member _ (low .member)) (others .before .before .kept-apart .ok) (rw (others .before .without .ensures) at (others .difference .ensures)) _ _ (found .detect-beside .ensures),
     )
 
@@ -90,7 +90,7 @@ detect-each-spec =
     no-ends-requires
     loop-holds
     lowest-requires
-    rest-requires
+    without-lowest-requires
     mul-union
     element-copy-out-union
     mul-union-2

@@ -32,7 +32,7 @@ loop-holds c = search needs
 loop-less : tie.Need-loop-less Inv-loop μ-loop
 loop-less c =
     let walk = c .before .before in
-    walk-falls (walk .before .before .before .loop .inv .0) (walk .before .lowest .ensures) (walk .rest .ensures)
+    walk-falls (walk .before .before .before .loop .inv .0) (walk .before .lowest .ensures) (walk .without-lowest .ensures)
 
 loop-again : tie.Need-loop-again Inv-loop μ-loop
 loop-again c =
@@ -44,7 +44,7 @@ loop-again c =
     let end = end-moderate (sideOf (start .args .side)) hours work (walk .before .lowest .result) in
     let end-is = toZ-ofZ w32 _ (record { sfits = c .before .end .ok }) ∙ c .before .end .ensures in
     let last-is = toZ-ofZ w32 _ (record { sfits = c .greater .ok }) ∙ (rw end-is at (c .greater .ensures)) in
-    (rw (walk .rest .ensures) (without-lt 64 _ _ width), rw last-is (moderate _ _ last end))
+    (rw (walk .without-lowest .ensures) (without-lt 64 _ _ width), rw last-is (moderate _ _ last end))
 
 returns : tie.Need-returns Inv-loop μ-loop
 returns c = c .before .loop .inv .1

@@ -16,12 +16,12 @@ abbrev μ-loop : tie.MeasureT-loop
 loop-less : tie.Need-loop-less Inv-loop μ-loop
 loop-less c =
     let walk = c .before .before in
-    walk-falls (walk .before .before .before .loop .inv) (walk .before .lowest .ensures) (walk .rest .ensures)
+    walk-falls (walk .before .before .before .loop .inv) (walk .before .lowest .ensures) (walk .without-lowest .ensures)
 
 loop-again : tie.Need-loop-again Inv-loop μ-loop
 loop-again c =
     let walk = c .before .before in
-    rw (walk .rest .ensures) (without-lt 64 _ _ (walk .before .before .before .loop .inv))
+    rw (walk .without-lowest .ensures) (without-lt 64 _ _ (walk .before .before .before .loop .inv))
 
 pub joining-each-spec : {M : Type 1} → statement M
 joining-each-spec =

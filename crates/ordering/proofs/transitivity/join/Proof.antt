@@ -46,8 +46,8 @@ loop-holds c = (
 lowest-requires : tie.Need-lowest-requires Inv-loop μ-loop
 lowest-requires c κs = search needs
 
-rest-requires : tie.Need-rest-requires Inv-loop μ-loop
-rest-requires c κs = search needs
+without-lowest-requires : tie.Need-without-lowest-requires Inv-loop μ-loop
+without-lowest-requires c κs = search needs
 
 link-requires : tie.Need-link-requires Inv-loop μ-loop
 link-requires c κs = search needs
@@ -55,7 +55,7 @@ link-requires c κs = search needs
 loop-less : tie.Need-loop-less Inv-loop μ-loop
 loop-less c =
     let walk = c .before .before .before in
-    fewer (walk .before .before .before .loop .inv .0) (walk .before .lowest .ensures) (walk .rest .ensures) .1
+    fewer (walk .before .before .before .loop .inv .0) (walk .before .lowest .ensures) (walk .without-lowest .ensures) .1
 
 loop-again : tie.Need-loop-again Inv-loop μ-loop
 loop-again c =
@@ -64,7 +64,7 @@ loop-again c =
     let (left, run) = at .loop .inv in
     let low = walk .before .lowest .ensures in
     let place = at .before .before .before .before .before .before .pre .0 in (
-      fewer left low (walk .rest .ensures) .0,
+      fewer left low (walk .without-lowest .ensures) .0,
       joined _ _ _ _ _ _ place run _ (left .member _ (low .member)) _ _ (c .link .ensures .0) (c .link .ensures .1),
     )
 
@@ -86,7 +86,7 @@ join-spec =
     (λ c κs. search needs)
     loop-holds
     lowest-requires
-    rest-requires
+    without-lowest-requires
     link-requires
     loop-less
     loop-again

@@ -24,8 +24,8 @@ loop-holds c = (to-come (c .before .fits .middles .fits) (λ x e. e), sound-none
 lowest-requires : tie.Need-lowest-requires Inv-loop μ-loop
 lowest-requires c κs = search needs
 
-rest-requires : tie.Need-rest-requires Inv-loop μ-loop
-rest-requires c κs = search needs
+without-lowest-requires : tie.Need-without-lowest-requires Inv-loop μ-loop
+without-lowest-requires c κs = search needs
 
 mul-intersection : tie.Need-mul-intersection Inv-loop μ-loop
 mul-intersection c = search needs
@@ -46,7 +46,7 @@ all-ends-requires c κs = search needs
 loop-less : tie.Need-loop-less Inv-loop μ-loop
 loop-less c =
     let walk = c .before .before .before .before .before .before in
-    fewer (walk .before .before .before .loop .inv .0) (walk .before .lowest .ensures) (walk .rest .ensures) .1
+    fewer (walk .before .before .before .loop .inv .0) (walk .before .lowest .ensures) (walk .without-lowest .ensures) .1
 
 loop-again : tie.Need-loop-again Inv-loop μ-loop
 loop-again c =
@@ -54,7 +54,7 @@ loop-again c =
     let walk = joined .before .before .before .before .before in
     let (left, run) = walk .before .before .before .loop .inv in
     let low = walk .before .lowest .ensures in
-    (fewer left low (walk .rest .ensures) .0, through-joined _ _ _ _ _ run _ (left .member _ (low .member)) _ _ (joined .join-through .ensures))
+    (fewer left low (walk .without-lowest .ensures) .0, through-joined _ _ _ _ _ run _ (left .member _ (low .member)) _ _ (joined .join-through .ensures))
 
 returns : tie.Need-returns Inv-loop μ-loop
 returns c = c .before .loop .inv .1
@@ -68,7 +68,7 @@ join-arcs-spec =
     no-ends-requires
     loop-holds
     lowest-requires
-    rest-requires
+    without-lowest-requires
     mul-intersection
     element-copy-out-intersection
     intersection-requires

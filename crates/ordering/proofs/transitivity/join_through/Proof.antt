@@ -24,8 +24,8 @@ loop-holds c = (to-come (c .before .fits .sources .fits) (λ x e. e), sound-none
 lowest-requires : tie.Need-lowest-requires Inv-loop μ-loop
 lowest-requires c κs = search needs
 
-rest-requires : tie.Need-rest-requires Inv-loop μ-loop
-rest-requires c κs = search needs
+without-lowest-requires : tie.Need-without-lowest-requires Inv-loop μ-loop
+without-lowest-requires c κs = search needs
 
 join-requires : tie.Need-join-requires Inv-loop μ-loop
 join-requires c κs = search needs
@@ -33,7 +33,7 @@ join-requires c κs = search needs
 loop-less : tie.Need-loop-less Inv-loop μ-loop
 loop-less c =
     let walk = c .before .before .before .before .before .before .before in
-    fewer (walk .before .before .before .loop .inv .0) (walk .before .lowest .ensures) (walk .rest .ensures) .1
+    fewer (walk .before .before .before .loop .inv .0) (walk .before .lowest .ensures) (walk .without-lowest .ensures) .1
 
 loop-again : tie.Need-loop-again Inv-loop μ-loop
 loop-again c =
@@ -43,7 +43,7 @@ loop-again c =
     let (left, run) = at .loop .inv in
     let low = walk .before .lowest .ensures in
     let member = at .before .before .pre .1 _ (left .member _ (low .member)) in
-    (fewer left low (walk .rest .ensures) .0, row-joined _ _ _ _ _ run _ member _ _ (joined .join .ensures))
+    (fewer left low (walk .without-lowest .ensures) .0, row-joined _ _ _ _ _ run _ member _ _ (joined .join .ensures))
 
 returns : tie.Need-returns Inv-loop μ-loop
 returns c = c .before .loop .inv .1
@@ -57,7 +57,7 @@ join-through-spec =
     no-ends-requires
     loop-holds
     lowest-requires
-    rest-requires
+    without-lowest-requires
     join-requires
     (λ c κs. search needs)
     (λ c κs. search needs)

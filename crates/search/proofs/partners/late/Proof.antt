@@ -36,13 +36,13 @@ returns c =
     let at = c .before .before .before .before in
     rw (toZ-ofZ w32 _ (at .before .fits .end)) at (at .loop .inv)
 
-rest-requires : tie.Need-rest-requires Inv-loop μ-loop
-rest-requires c κs = search needs
+without-lowest-requires : tie.Need-without-lowest-requires Inv-loop μ-loop
+without-lowest-requires c κs = search needs
 
 loop-less : tie.Need-loop-less Inv-loop μ-loop
 loop-less c =
     let low = c .before .before .before in
-    walk-falls (low .before .before .loop .inv .width) (low .lowest .ensures) (c .rest .ensures)
+    walk-falls (low .before .before .loop .inv .width) (low .lowest .ensures) (c .without-lowest .ensures)
 
 loop-again : tie.Need-loop-again Inv-loop μ-loop
 loop-again c =
@@ -51,7 +51,7 @@ loop-again c =
     let at = low .before .before in
     let a = at .before .args in
     let timely : InTime (a .latest .now) (a .lengths .now) (toZ w32 (ofZ w32 (a .end))) k = omega (whole, sym (c .before .before .ends-late .ensures) ∙ c .before .if1 .left) in
-    rw (c .rest .ensures) (visited jobLimit _ _ (at .loop .left) k (at .loop .inv) (low .lowest .ensures) timely)
+    rw (c .without-lowest .ensures) (visited jobLimit _ _ (at .loop .left) k (at .loop .inv) (low .lowest .ensures) timely)
 
 returns-2 : tie.Need-returns-2 Inv-loop μ-loop
 returns-2 c = rw (toZ-ofZ w32 _ (c .before .before .fits .end)) at (c .before .loop .inv)
@@ -66,7 +66,7 @@ late-spec =
     lowest-requires
     ends-late-requires
     returns
-    rest-requires
+    without-lowest-requires
     loop-less
     loop-again
     returns-2)

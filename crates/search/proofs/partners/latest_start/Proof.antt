@@ -31,8 +31,8 @@ loop-holds c = (c .fits .set .fits, λ k e out. absurd (refuted out e))
 lowest-requires : tie.Need-lowest-requires Inv-loop μ-loop
 lowest-requires c κs = search needs
 
-rest-requires : tie.Need-rest-requires Inv-loop μ-loop
-rest-requires c κs = search needs
+without-lowest-requires : tie.Need-without-lowest-requires Inv-loop μ-loop
+without-lowest-requires c κs = search needs
 
 mul-gap : tie.Need-mul-gap Inv-loop μ-loop
 mul-gap c = search needs
@@ -59,7 +59,7 @@ lesser-requires c κs = search needs
 loop-less : tie.Need-loop-less Inv-loop μ-loop
 loop-less c =
     let next = c .before .before .before .before in
-    walk-falls (next .before .before .before .loop .inv .0) (next .before .lowest .ensures) (next .rest .ensures)
+    walk-falls (next .before .before .before .loop .inv .0) (next .before .lowest .ensures) (next .without-lowest .ensures)
 
 loop-again : tie.Need-loop-again Inv-loop μ-loop
 loop-again c =
@@ -73,7 +73,7 @@ loop-again c =
     let gap = c .before .gap in
     let gap-is = toZ-ofZ w32 _ (record { sfits = gap .ok }) ∙ simp (toZ-ofZ, time-fits (ends .time k), length-fits work k) at (gap .ensures) in
     let least = toZ-ofZ w32 _ (record { sfits = c .lesser .ok }) ∙ (rw gap-is at (c .lesser .ensures)) in
-    rw (next .rest .ensures, least) (without-lt jobLimit (at .loop .left) k fits, in-time-lesser (a .latest .now) (a .lengths .now) (a .set) (at .loop .left) k (toZ w32 (at .loop .least)) fits (low .ensures) timely)
+    rw (next .without-lowest .ensures, least) (without-lt jobLimit (at .loop .left) k fits, in-time-lesser (a .latest .now) (a .lengths .now) (a .set) (at .loop .left) k (toZ w32 (at .loop .least)) fits (low .ensures) timely)
 
 returns : tie.Need-returns Inv-loop μ-loop
 returns c = λ k e. c .before .loop .inv .1 k e (rw (c .loop-test .left) (bit-zero k))
@@ -86,7 +86,7 @@ latest-start-spec =
     μ-loop
     loop-holds
     lowest-requires
-    rest-requires
+    without-lowest-requires
     mul-gap
     element-copy-out-gap
     mul-gap-2

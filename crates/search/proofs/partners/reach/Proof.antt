@@ -31,8 +31,8 @@ element-copy-out-union c = search needs
 union-requires : tie.Need-union-requires Inv-loop μ-loop
 union-requires c κs = search needs
 
-rest-requires : tie.Need-rest-requires Inv-loop μ-loop
-rest-requires c κs = search needs
+without-lowest-requires : tie.Need-without-lowest-requires Inv-loop μ-loop
+without-lowest-requires c κs = search needs
 
 difference-requires : tie.Need-difference-requires Inv-loop μ-loop
 difference-requires c κs = search needs
@@ -43,7 +43,7 @@ loop-less c =
     let at = low .before .before in
     let a = at .before .args in
     let joined = c .before .before .union in
-    rw (c .difference .ensures, c .before .rest .ensures, joined .ensures)
+    rw (c .difference .ensures, c .before .without-lowest .ensures, joined .ensures)
     (look-falls (a .after .now) (a .set) (at .loop .left) (at .loop .all) (low .lowest .result) (at .loop .inv) (low .lowest .ensures) (rw (joined .ensures) at (joined .ok)))
 
 loop-again : tie.Need-loop-again Inv-loop μ-loop
@@ -52,7 +52,7 @@ loop-again c =
     let at = low .before .before in
     let a = at .before .args in
     let joined = c .before .before .union in
-    rw (c .difference .ensures, c .before .rest .ensures, joined .ensures)
+    rw (c .difference .ensures, c .before .without-lowest .ensures, joined .ensures)
     (look (a .after .now) (a .set) (at .loop .left) (at .loop .all) (low .lowest .result) (at .loop .inv) (low .lowest .ensures) (rw (joined .ensures) at (joined .ok)))
 
 returns : tie.Need-returns Inv-loop μ-loop
@@ -69,7 +69,7 @@ reach-spec =
     mul-union
     element-copy-out-union
     union-requires
-    rest-requires
+    without-lowest-requires
     difference-requires
     loop-less
     loop-again
