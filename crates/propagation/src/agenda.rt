@@ -82,7 +82,8 @@ fn behind_on(left: Agenda, side: Side) -> u64 {
 }
 
 // On which side jobs are to move next. Those of `new_on` come first, on either side: with new ones beyond them they do move, and may have moved
-// further by the time that the others are asked; next to a fact they show the nearest contradiction. The sides take turns, so that long work on one doesn't put off a contradiction on the other.
+// further by the time that the others are asked; next to a fact they show the nearest contradiction. The sides take turns, so that long
+// work on one doesn't put off a contradiction on the other.
 pub fn next_side(left: Agenda) -> Side {
     let first = if left.late_next {
         Side::Late
