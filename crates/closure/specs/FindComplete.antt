@@ -63,7 +63,7 @@ module _ (v : View) (lengths : (k : ℕ) → Valid v k → pos 0 ≤ℤ v .row k
   push-kept : (s : Side) (j : ℕ) (S : ℕ → Bool) (m : ℤ) → Live v j → Pushing v s j S m → (m +ℤ energy v S) ≤ℤ bound s (v .row j)
   unfolding pushed
   push-kept s j S m lj p =
-      let (z, sum, l) = pushing-sum v s j S m p in
+      let (z, sum, l, _) = pushing-sum v s j S m p in
       let x = sum .first in
       let (vx, bx) = sum .beyond x (sum .member) in
       let start = bound s (v .row x) in

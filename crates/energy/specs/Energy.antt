@@ -87,6 +87,11 @@ Exceeds P low (some z) = Greatest P z × (low <ℤ z)
 abbrev pub over : ℤ → ℤ → Option ℤ
 over low z = cond (ltZ low z) (some z) none
 
+-- the job at place k ends by `low` with the lengths of all of the set w added, and no sum of w is above `low`
+pub record EndsBy (s : Side) (times lengths : List ℤ) (k w : ℕ) (low : ℤ) : Type 0 where
+  pub together : (endAt s times lengths k +ℤ load lengths w) ≤ℤ low
+  pub sums : (z : ℤ) → Sum s times lengths w z → z ≤ℤ low
+
 -- a bound above that of job j, to which a set of jobs of the word w pushes it
 abbrev pub Pushes : Side → List ℤ → List ℤ → ℕ → ℕ → Option ℤ → Type 0
 Pushes s times lengths w j none = Unit

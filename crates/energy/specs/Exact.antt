@@ -43,7 +43,7 @@ bound-is b early k = refl
 bound-is b late k = refl
 
 -- valid jobs are jobs of the board, so there is nothing to add past them
-energy-is : (b : Board) → Within b → (S : ℕ → Bool) → ((k : ℕ) → S k ≡ true → Valid (view b) k)
+pub energy-is : (b : Board) → Within b → (S : ℕ → Bool) → ((k : ℕ) → S k ≡ true → Valid (view b) k)
     → total jobLimit S (lengthAt (b .lengths)) ≡ energy (view b) S
 energy-is b h S valid = total-more (b .jobs) jobLimit S (lengthAt (b .lengths)) (h .limits .jobs) λ k l. is-false _ λ e.
     omega (arith, valid k e .0)

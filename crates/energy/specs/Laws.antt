@@ -73,6 +73,10 @@ end-moderate s {times} {lengths} hours work k =
 moderate-fits : (z : ℤ) → Moderate z → SFits w32 z
 moderate-fits z m = fits z (omega whole) (omega whole)
 
+-- a sum of lengths as the machine reads it back from its bits
+pub load-back : {lengths : List ℤ} → Lengths lengths → (w : ℕ) (all : ℤ) → all ≡ load lengths w → toZ w32 (ofZ w32 all) ≡ load lengths w
+load-back work w all e = rw e (toZ-ofZ w32 _ (moderate-fits _ (load-moderate work w)))
+
 -- what a set with a member comes to, also as the machine reads it back from its bits
 module _ {s : Side} {times lengths : List ℤ} {w : ℕ} {low all : ℤ} (hours : Times times) (work : Lengths lengths) (c : Comes s times lengths w low all)
     (some-job : w ≢ 0) where

@@ -34,7 +34,7 @@ module _ (v : View) (s : Side) (j : ℕ) where
 
   -- and a set that pushes j comes to no less than it pushes j to
   pub pushing-sum : (S : ℕ → Bool) (m : ℤ) → Pushing v s j S m
-      → (z : ℤ) × SumBeyond v s j z × ((m +ℤ energy v S) ≤ℤ z)
+      → (z : ℤ) × (sum : SumBeyond v s j z) × ((m +ℤ energy v S) ≤ℤ z) × ((k : ℕ) → sum .set k ≡ true → S k ≡ true)
   pushing-sum S m p =
       let (x, l, sx, least) = least-member (v .jobs) S (λ k. bound s (v .row k)) (p .member) (p .valid (p .member) (p .inside) .0) (p .inside) in
       let sum : SumBeyond v s j (bound s (v .row x) +ℤ energy v S) =
@@ -47,4 +47,4 @@ module _ (v : View) (s : Side) (j : ℕ) where
         is = refl;
       }
       in
-      (bound s (v .row x) +ℤ energy v S, sum, omega (whole, p .low x sx, plus m (energy v S), plus (bound s (v .row x)) (energy v S)))
+      (bound s (v .row x) +ℤ energy v S, sum, omega (whole, p .low x sx, plus m (energy v S), plus (bound s (v .row x)) (energy v S)), λ k e. e)

@@ -2,6 +2,7 @@
 use board::Board;
 use board::facts::Side;
 ghost use mathlib.Core.Path.{_≡_};
+ghost use mathlib.Core.Bool.{true};
 ghost use Prim.Native.Nat.{_<_};
 ghost use Rattle.minutes.specs.Time.{Moderate};
 ghost use Rattle.board.specs.Paper.Limits.{jobLimit};
@@ -156,4 +157,29 @@ pub fn single_bound(
     ensures { λ r. ⌜ energy.boundOf (paper.sideOf side) r ≡ energy.over (paper.turned (paper.sideOf side) floor) (energy.endAt (paper.sideOf side) (now (times .entry)) (now (lengths .entry)) k) ⌝ }
 {
     above(side, turned(side, floor), end(side, times, lengths, k))
+}
+
+// Does the job at place k end by the floor with the lengths of all of a set added, and is no sum of the set above the floor?
+pub fn ends_by(
+    side: Side,
+    times: &[i32; Board::JOBS],
+    lengths: &[i32; Board::JOBS],
+    k: usize,
+    set: u64,
+    floor: i32,
+) -> bool
+    requires { ⌜ energy.Times (now times) × energy.Lengths (now lengths) × (k < jobLimit) × Moderate floor ⌝ }
+    ensures { λ r. ⌜ (r ≡ true → energy.EndsBy (paper.sideOf side) (now (times .entry)) (now (lengths .entry)) k set (paper.turned (paper.sideOf side) floor)) ⌝ }
+{
+    let all = whole(side, times, lengths, set);
+    let together = minutes::sum(end(side, times, lengths, k), all.total);
+    if turned(side, floor) < together {
+        return false;
+    }
+    let bound = energy_bound(side, times, lengths, set, floor);
+    if let EnergyBound::Unbounded = bound {
+        true
+    } else {
+        false
+    }
 }

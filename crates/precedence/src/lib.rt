@@ -145,7 +145,7 @@ fn leading_to<'a>(
     if set == known.set {
         return known;
     }
-    let bound = bound_beyond(side, job, times, lengths, beyond, opposite, valid);
+    let bound = bound_beyond(side, job, times, lengths, beyond, opposite, valid, false);
     let EnergyBound::At(time) = bound else {
         return unknown();
     };

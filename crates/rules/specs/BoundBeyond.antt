@@ -1,8 +1,8 @@
--- The bound that the valid jobs beyond a job leave to it, over numbers and words: the sums of these jobs, or a last one of them where all
--- others lie beyond it.
-use mathlib.Core.Path.{_≡_, refl, ap, _∙_, subst}
+-- The bound that the valid jobs beyond a job leave to it, over numbers and words: the sums of these jobs, or a last one of them with the few
+-- that don't lie beyond it.
+use mathlib.Core.Path.{_≡_, ap, _∙_, subst}
 use mathlib.Core.Logic.{_≢_, _⊎_, inl, inr}
-use mathlib.Core.Bool.{Bool, true, false}
+use mathlib.Core.Bool.{true}
 use mathlib.Core.List.{List}
 use mathlib.Core.Option.{Option, none, some}
 use Prim.Native.Nat.{ℕ, _<_, _^_}
@@ -12,23 +12,26 @@ use lib.Signed.{ltZ, _≤ℤ_}
 use Rattle.words.specs.Bit.{bit, intersection, difference, without}
 use Rattle.words.specs.BitLaws.{bit-zero, bit-difference, bit-without, without-lt}
 use Rattle.minutes.specs.Bools.{refuted, by-test}
-use Rattle.minutes.specs.Linear.{whole}
+use Rattle.minutes.specs.Linear.{whole, plus}
 use Rattle.board.specs.Paper.View.{Side}
 use Rattle.board.specs.Paper.Limits.{jobLimit}
 use Rattle.board.specs.Tests.Decides.{Decides, retested, _and_, negated, holds, eq}
-use Rattle.energy.specs.Energy.{boundAt, endAt, Sum, Exceeds, over, Pushes}
+use Rattle.energy.specs.Energy.{boundAt, endAt, load, Sum, Exceeds, over, EndsBy, Pushes}
+use Rattle.energy.specs.Laws.{load-none}
 use Rattle.energy.specs.Single.{single}
 
 -- r has the jobs of the set w but k that are not in k's word
 abbrev pub Apart : ℕ → ℕ → ℕ → ℕ → Type 0
 Apart w k word r = (x : ℕ) → Decides (bit r x) (((bit w x ≡ true) × (k ≢ x)) × (bit word x ≡ true → ⊥))
 
--- The jobs of the set w lie beyond a last one, which ends by the bound of job j.
+-- The jobs of the set w lie beyond a last one, but for some that stand apart. With all of these the last one ends by the bound of job j, and
+-- so do their own sums.
 pub record LastUnder (s : Side) (times lengths : List ℤ) (beyond : List ℕ) (w j : ℕ) : Type 0 where
   pub last : ℕ
   pub member : bit w last ≡ true
-  pub others : (x : ℕ) → bit w x ≡ true → last ≢ x → bit (getD beyond last 0) x ≡ true
-  pub ends : endAt s times lengths last ≤ℤ boundAt s times j
+  pub rest : ℕ
+  pub apart : Apart w last (getD beyond last 0) rest
+  pub ends : EndsBy s times lengths last rest (boundAt s times j)
 
 -- What an answer says of the jobs w beyond job j. A bound is a sum above j's own. Where there is none, no sum is above it, or the last
 -- one's end is not: that suffices once it is known of the last one too (see `Settled`).
@@ -54,21 +57,26 @@ module _ (s : Side) (times lengths : List ℤ) (beyond : List ℕ) (j w : ℕ) w
   none-there : w ≡ 0 → Says s times lengths beyond w j none
   none-there e = inl λ z p. absurd (refuted (ap (λ x. bit x (p .first)) e ∙ bit-zero (p .first)) (p .inside (p .first) (p .member)))
 
-  -- the last one alone, where none stands apart
-  pub last-alone : (k r : ℕ) → k < jobLimit → bit w k ≡ true → Apart w k (getD beyond k 0) r → r ≡ 0
-      → Says s times lengths beyond w j (over (boundAt s times j) (endAt s times lengths k))
-  last-alone k r place member apart none-apart =
-      let end = endAt s times lengths k in
-      by-test (Says s times lengths beyond w j) (ltZ (boundAt s times j) end) (some end) none
-      (λ e. (single s times lengths w k place member, omega whole))
-      (λ e. inr (record { last = k; member = member; others = others; ends = omega whole }))
-    where
-      others : (x : ℕ) → bit w x ≡ true → k ≢ x → bit (getD beyond k 0) x ≡ true
-      others x i ne = go (bit (getD beyond k 0) x) refl
-        where
-          go : (t : Bool) → bit (getD beyond k 0) x ≡ t → t ≡ true
-          go true e = refl
-          go false e = absurd (refuted (ap (λ y. bit y x) none-apart ∙ bit-zero x) (apart x .show ((i, ne), refuted e)))
+  module _ (k rest : ℕ) (place : k < jobLimit) (member : bit w k ≡ true) (apart : Apart w k (getD beyond k 0) rest) where
+    -- the last one with those that stand apart
+    pub last-ends-by : EndsBy s times lengths k rest (boundAt s times j) → Says s times lengths beyond w j none
+    last-ends-by ends = inr (record { last = k; member = member; rest = rest; apart = apart; ends = ends })
+
+    -- the last one alone, where none stands apart
+    pub last-alone : rest ≡ 0 → Says s times lengths beyond w j (over (boundAt s times j) (endAt s times lengths k))
+    last-alone none-apart =
+        let end = endAt s times lengths k in
+        by-test (Says s times lengths beyond w j) (ltZ (boundAt s times j) end) (some end) none
+        (λ e. (single s times lengths w k place member, omega whole))
+        (λ e.
+        last-ends-by
+        (record {
+          together = omega (whole, load-none lengths rest none-apart, plus end (load lengths rest));
+          sums = λ z p. absurd (no-member (p .first) (p .inside (p .first) (p .member)));
+        }))
+      where
+        no-member : (x : ℕ) → bit rest x ≡ true → ⊥
+        no-member x = refuted (ap (λ y. bit y x) none-apart ∙ bit-zero x)
 
   -- all sums
   pub all-sums : (o : Option ℤ) → Exceeds (Sum s times lengths w) (boundAt s times j) o → Says s times lengths beyond w j o

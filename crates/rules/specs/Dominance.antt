@@ -62,8 +62,10 @@ module _ (v : View) (s : Side) (p j : ℕ) (shared : (k : ℕ) → Valid v k →
       (record {
         last = l .last;
         valid = l .valid;
+        apart = l .apart;
         others = λ k valid beyond. l .others k valid (shared k valid beyond);
-        ends = omega (whole, l .ends);
+        together = omega (whole, l .together);
+        sums = λ S m q inside. omega (whole, l .sums S m (pushes-both S m q) inside);
       })
 
 -- ---- over the numbers and words of a board

@@ -1,7 +1,7 @@
 -- The search at one job, over numbers: R4 and R5 on one side, and R6.
-use mathlib.Core.Path.{_≡_, subst⁻¹}
-use mathlib.Core.Logic.{_≢_, inl, inr}
-use mathlib.Core.Bool.{true, false}
+use mathlib.Core.Path.{_≡_, refl, subst⁻¹}
+use mathlib.Core.Logic.{_≢_, _⊎_, inl, inr}
+use mathlib.Core.Bool.{Bool, true, false}
 use mathlib.Core.List.{List}
 use mathlib.Core.Option.{Option, none, some}
 use Prim.Native.Nat.{ℕ}
@@ -10,6 +10,7 @@ use lib.ListN.{getD}
 use lib.Signed.{leZ, _<ℤ_}
 use Rattle.words.specs.Bit.{bit}
 use Rattle.words.specs.BitLaws.{bit-intersection}
+use Rattle.minutes.specs.Bools.{refuted}
 use Rattle.minutes.specs.Linear.{whole}
 use Rattle.board.specs.declared.Board.{Board}
 use Rattle.board.specs.Paper.View.{View, Live, Valid, Side, early, late, Beyond, view, rowOf}
@@ -21,7 +22,7 @@ use Rattle.board.specs.Tests.Live.{roomy}
 use Rattle.board.specs.Tests.Decides.{Decides, retested, _and_, holds, valid-is}
 use Rattle.board.specs.Inference.Infers.{Infers, r45, r6}
 use Rattle.energy.specs.Energy.{Sum, boundAt}
-use Rattle.energy.specs.Exact.{timesOf, bound-is, sum-beyond, exceeds-beyond}
+use Rattle.energy.specs.Exact.{timesOf, bound-is, energy-is, sum-beyond, sum-of, exceeds-beyond}
 use Rattle.energy.specs.SumBeyond.{sum-pushes, pushing-sum}
 use Rattle.rules.specs.BoundBeyond.{LastUnder, BoundBeyond, pushing}
 use Rattle.rules.specs.Searched.{Searched, JobsObey}
@@ -81,15 +82,29 @@ module _ (b : Board) (h : Within b) (valids : ℕ) (is-valid : (x : ℕ) → bit
       record {
         last = l .last;
         valid = pushing-bit s j (l .last) .yes (l .member) .0;
-        others = λ k v beyond ne. beyond-bit b h s (l .last) k .yes (l .others k (pushing-bit s j k .show (v, beyond)) ne);
-        ends = rw (← bound-is b s j, ← bound-is b s (l .last)) (l .ends);
+        apart = bit (l .rest);
+        others = others;
+        together = rw (← bound-is b s j, ← bound-is b s (l .last), ← energy-is b h (bit (l .rest)) (λ k e. members k e .0)) (l .ends .together);
+        sums = λ S m p within.
+            let (y, sum, up, part) = pushing-sum (view b) s j S m p in
+            omega (whole, up, l .ends .sums y (sum-of b h s j (l .rest) y sum λ k e. within k (part k e)), bound-is b s j);
       }
+    where
+      members : (k : ℕ) → bit (l .rest) k ≡ true → Valid (view b) k × Beyond (view b) s k j
+      members k e = pushing-bit s j k .yes (l .apart k .yes e .0 .0)
+
+      others : (k : ℕ) → Valid (view b) k → Beyond (view b) s k j → l .last ≢ k → Beyond (view b) s k (l .last) ⊎ (bit (l .rest) k ≡ true)
+      others k v beyond ne = go (bit (getD (wordsOf b s) (l .last) 0) k) refl
+        where
+          go : (t : Bool) → bit (getD (wordsOf b s) (l .last) 0) k ≡ t → Beyond (view b) s k (l .last) ⊎ (bit (l .rest) k ≡ true)
+          go true e = inl (beyond-bit b h s (l .last) k .yes e)
+          go false e = inr (l .apart k .show ((pushing-bit s j k .show (v, beyond), ne), refuted e))
 
   side-says : (s : Side) (j : ℕ) → Live (view b) j → (o : Option ℤ)
       → BoundBeyond s (timesOf b s) (b .lengths) (wordsOf b s) valids j o
       → Searched (view b) (Settled (view b) s j) (told s j o)
   side-says s j live none (inl under) = inl λ S m p.
-      let (y, sum, l) = pushing-sum (view b) s j S m p in
+      let (y, sum, l, _) = pushing-sum (view b) s j S m p in
       omega (whole, l, exceeds-beyond b h s j _ (pushing-bit s j) (boundAt s (timesOf b s) j) none under y sum, bound-is b s j)
   side-says s j live none (inr l) = inr (last-ends s j l)
   side-says s j live (some z) (p, above) = sum-infers b h s j _ live (λ k e. pushing-bit s j k .yes e) z p above

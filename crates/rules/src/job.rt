@@ -4,6 +4,7 @@ use board::Board;
 use board::facts::Fact;
 use board::facts::Side;
 use energy::EnergyBound;
+use energy::ends_by;
 use energy::energy_bound;
 use energy::single_bound;
 use windows::Window;
@@ -45,8 +46,9 @@ fn standing_apart(set: u64, k: usize, word: u64) -> u64
     words::difference(words::without(set, k), word)
 }
 
-// The bound that a set of jobs, all beyond `job` on one side, leaves to it, where it is above its own. Where all others lie beyond a last
-// one, its bound has room for them already, and it alone decides.
+// The bound that a set of jobs, all beyond `job` on one side, leaves to it, where it is above its own. Most of them lie beyond a last
+// one, whose bound has room for them already: where none stands apart it alone decides. Where some do they seldom push a job that has not moved: the
+// search asks for the `few` first, and propagation takes the sums at once.
 fn bound_of<'a>(
     side: Side,
     job: usize,
@@ -55,6 +57,7 @@ fn bound_of<'a>(
     lengths: &'a [i32; Board::JOBS],
     beyond: &'a [u64; Board::JOBS],
     opposite: &'a [u64; Board::JOBS],
+    few: bool,
 ) -> EnergyBound
     requires { ⌜ (job < jobLimit) × (set ≢ 0) × Times (now times) × Lengths (now lengths) ⌝ }
     ensures { λ r. ⌜ Says (sideOf side) (now (times .entry)) (now (lengths .entry)) (now (beyond .entry)) set job (boundOf (sideOf side) r) ⌝ }
@@ -63,6 +66,12 @@ fn bound_of<'a>(
     let apart = standing_apart(set, k, beyond[k]);
     if apart == 0 {
         return single_bound(side, times, lengths, k, times[job]);
+    }
+    if few
+        && apart != words::without(set, k)
+        && ends_by(side, times, lengths, k, apart, times[job])
+    {
+        return EnergyBound::Unbounded;
     }
     energy_bound(side, times, lengths, set, times[job])
 }
@@ -77,6 +86,7 @@ pub fn bound_beyond<'a>(
     beyond: &'a [u64; Board::JOBS],
     opposite: &'a [u64; Board::JOBS],
     valid: u64,
+    few: bool,
 ) -> EnergyBound
     requires { ⌜ (job < jobLimit) × Times (now times) × Lengths (now lengths) ⌝ }
     ensures { λ r. ⌜ BoundBeyond (sideOf side) (now (times .entry)) (now (lengths .entry)) (now (beyond .entry)) valid job (boundOf (sideOf side) r) ⌝ }
@@ -85,7 +95,7 @@ pub fn bound_beyond<'a>(
     if set == 0 {
         return EnergyBound::Unbounded;
     }
-    bound_of(side, job, set, times, lengths, beyond, opposite)
+    bound_of(side, job, set, times, lengths, beyond, opposite, few)
 }
 
 // Is a time, as a bound on one side, below another?
@@ -153,7 +163,7 @@ fn at_side<'a>(
     if representative != job {
         return Found::Nothing;
     }
-    let bound = bound_beyond(side, job, times, lengths, beyond, opposite, valid);
+    let bound = bound_beyond(side, job, times, lengths, beyond, opposite, valid, true);
     let EnergyBound::At(time) = bound else {
         return Found::Nothing;
     };

@@ -1,4 +1,4 @@
--- `rules::job::bound_of` meets its contract: the last one alone, or all sums. Assumes nothing.
+-- `rules::job::bound_of` meets its contract: the last one alone or with those that stand apart, or all sums. Assumes nothing.
 use borrow.Author.Needs.{needs}
 use lib.IntN.{pos}
 use lib.ListN.{getD}
@@ -10,7 +10,7 @@ use Rattle.board.specs.Paper.Values.{sideOf}
 use Rattle.board.specs.Tests.Ranges.{time-moderate}
 use Rattle.energy.specs.Energy.{boundOf}
 use Rattle.energy.specs.Laws.{time-fits}
-use Rattle.rules.specs.BoundBeyond.{last-alone, all-sums}
+use Rattle.rules.specs.BoundBeyond.{last-ends-by, last-alone, all-sums}
 use Rattle.rules.proofs.job.bound_of.Statement.{statement}
 use Rattle.rules.proofs.job.bound_of.Tie as tie
 
@@ -60,6 +60,32 @@ returns c =
     rw told
     (last-alone side (a .times .now) (a .lengths .now) (a .beyond .now) (a .job) (a .set) (found .result) _ (found .ensures .0) (found .ensures .1) (apart .standing-apart .ensures) (c .before .before .if1 .taken))
 
+without-requires : tie.Need-without-requires
+without-requires c κs = search needs
+
+mul-ends-by : tie.Need-mul-ends-by
+mul-ends-by c = search needs
+
+element-copy-out-ends-by : tie.Need-element-copy-out-ends-by
+element-copy-out-ends-by c = search needs
+
+ends-by-requires : tie.Need-ends-by-requires
+ends-by-requires c κs =
+    let apart = c .before .before .before .before .before in
+    let start = start-of apart in
+    let (_, _, hours, work) = start .pre in
+    (hours, work, apart .before .before .last .ensures .0, floor-moderate start)
+
+returns-2 : tie.Need-returns-2
+returns-2 c =
+    let apart = c .before .before .before .before .before .before .before in
+    let start = start-of apart in
+    let found = apart .before .before .last in
+    let a = start .args in
+    let ends = simp (toZ-ofZ, time-fits (start .pre .2 .time (a .job))) at (c .before .ends-by .ensures (c .if4 .taken)) in
+    let side = sideOf (a .side) in
+    last-ends-by side (a .times .now) (a .lengths .now) (a .beyond .now) (a .job) (a .set) (found .result) _ (found .ensures .0) (found .ensures .1) (apart .standing-apart .ensures) ends
+
 mul-energy-bound : tie.Need-mul-energy-bound
 mul-energy-bound c = search needs
 
@@ -68,13 +94,13 @@ element-copy-out-energy-bound c = search needs
 
 energy-bound-requires : tie.Need-energy-bound-requires
 energy-bound-requires c κs =
-    let start = start-of (c .before .before) in
+    let start = start-of (c .before .before .before) in
     let (_, _, hours, work) = start .pre in
     (hours, work, floor-moderate start)
 
-returns-2 : tie.Need-returns-2
-returns-2 c =
-    let start = start-of (c .before .before .before) in
+returns-3 : tie.Need-returns-3
+returns-3 c =
+    let start = start-of (c .before .before .before .before) in
     let a = start .args in
     let told = simp (toZ-ofZ, time-fits (start .pre .2 .time (a .job))) at (c .energy-bound .ensures) in
     let side = sideOf (a .side) in
@@ -92,7 +118,12 @@ bound-of-spec =
     element-copy-out-single-bound
     single-bound-requires
     returns
+    without-requires
+    mul-ends-by
+    element-copy-out-ends-by
+    ends-by-requires
+    returns-2
     mul-energy-bound
     element-copy-out-energy-bound
     energy-bound-requires
-    returns-2)
+    returns-3)
