@@ -47,8 +47,8 @@ fn standing_apart(set: u64, k: usize, word: u64) -> u64
 }
 
 // The bound that a set of jobs, all beyond `job` on one side, leaves to it, where it is above its own. Most of them lie beyond a last
-// one, whose bound has room for them already: where none stands apart it alone decides. Where some do they seldom push a job that has not moved: the
-// search asks for the `few` first, and propagation takes the sums at once.
+// one, whose bound has room for them already: where none stands apart it alone decides, and where some do they seldom push a job on a board
+// where nothing is left to move. The search asks that first (`few`); propagation, whose jobs mostly do move, takes the sums at once.
 fn bound_of<'a>(
     side: Side,
     job: usize,
