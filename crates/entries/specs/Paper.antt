@@ -1,5 +1,6 @@
 -- Document 01's calls as definitions: what a reader must believe.
 pub mod Entry
+pub mod Values
 pub mod Gate
 pub mod Enter
 pub mod Looking
