@@ -1,2 +1,3 @@
 -- The entry calls as code.
 pub mod Called
+pub mod Concluded

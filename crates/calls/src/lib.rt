@@ -1,111 +1,86 @@
-// The entry calls on a board that has passed check 0: who holds such a board pays for no second check.
+// An entry call on a board that has passed check 0, in three parts: the checks of the table, the attempt, and what is concluded from it.
+// Who holds such a board pays for no second check.
+use answers::acceptance;
+use answers::impossible;
+use answers::refused;
+use attempts::attempt;
 use board::Board;
-use board::facts::Fact;
-use board::facts::Side;
 use entries::Answer;
 use entries::Entered;
+use entries::Entry;
 use gate::Gate;
-use gate::addition_gate;
-use gate::cut_gate;
-use gate::index;
-use gate::mark_gate;
-use gate::mark_value;
-use gate::pair_gate;
-use statements::enter;
-use statements::refused;
+use gate::entry_gate;
 use statements::stated::Stated;
+use statements::stated::is_shown;
+use statements::stated::jobs_with;
+use statements::stated_by;
 ghost use mathlib.Core.Path.{_≡_};
-ghost use mathlib.Core.Bool.{true, cond};
-ghost use lib.Dec.{eqb};
+ghost use mathlib.Core.Bool.{true};
+ghost use Rattle.board.specs.Update.Updates.{_andThen_};
 ghost use Rattle.closure.specs.Check.{passes};
-ghost use Rattle.entries.specs.Paper.Entry as entry;
+ghost use Rattle.closure.specs.Closing as closing;
 ghost use Rattle.entries.specs.Paper.Enter as paper;
+ghost use Rattle.entries.specs.Paper.Values.{entryOf};
+ghost use Rattle.statements.specs.Stated.{rawOf, Admissible};
 
-pub fn addition(board: Board, length: i32, earliest: i32, latest: i32, mark: i32) -> Entered
-    requires { ⌜ passes board ≡ true ⌝ }
-    ensures { λ r. ⌜ r ≡ paper.enter board (entry.addition length earliest latest mark) ⌝ }
+// The attempt on a copy of the board's arrays, and what follows: the board put together once, or refusal 8. What the board shows
+// already alters nothing, and a board that passes check 0 is closed.
+fn conclude(board: Board, stated: Stated, accepted: Answer) -> Entered
+    requires { ⌜ (passes board ≡ true) × Admissible (board .jobs) stated ⌝ }
+    ensures { λ r. ⌜ r ≡ paper.concluded board accepted (rawOf board stated andThen closing.closure) ⌝ }
 {
-    match addition_gate(board.jobs, length, earliest, latest, mark) {
-        Gate::Closed(refusal) => refused(refusal, board),
-        Gate::Open => {
-            let row = Stated::Row {
-                length,
-                earliest,
-                latest,
-                mark: mark_value(mark),
-            };
-            enter(board, row, Answer::Added(board.jobs))
-        }
+    if is_shown(
+        &board.earliest,
+        &board.latest,
+        &board.marks,
+        &board.after,
+        stated,
+    ) {
+        return Entered {
+            answer: accepted,
+            board,
+        };
     }
-}
-
-pub fn arc(board: Board, from: i32, to: i32) -> Entered
-    requires { ⌜ passes board ≡ true ⌝ }
-    ensures { λ r. ⌜ r ≡ paper.enter board (entry.other (entry.arc from to)) ⌝ }
-{
-    match pair_gate(board.jobs, from, to) {
-        Gate::Closed(refusal) => refused(refusal, board),
-        Gate::Open => {
-            let fact = Fact::Arc {
-                from: index(from),
-                to: index(to),
-            };
-            enter(board, Stated::One(fact), Answer::Accepted)
-        }
+    let jobs = jobs_with(board.jobs, stated);
+    let mut lengths = board.lengths;
+    let mut earliest = board.earliest;
+    let mut latest = board.latest;
+    let mut marks = board.marks;
+    let mut after = board.after;
+    let mut before = board.before;
+    if !attempt(
+        board.jobs,
+        &mut lengths,
+        &mut earliest,
+        &mut latest,
+        &mut marks,
+        &mut after,
+        &mut before,
+        stated,
+    ) {
+        return impossible(board);
     }
-}
-
-// "Mark a job 1 or 2."
-fn marking(job: usize, mark: u8) -> Fact
-    ensures { λ r. ⌜ r ≡ cond (eqb mark 1) (Fact.Valid job) (Fact.Invalid job) ⌝ }
-{
-    if mark == Board::VALID {
-        Fact::Valid { job }
-    } else {
-        Fact::Invalid { job }
-    }
-}
-
-pub fn mark(board: Board, job: i32, mark: i32) -> Entered
-    requires { ⌜ passes board ≡ true ⌝ }
-    ensures { λ r. ⌜ r ≡ paper.enter board (entry.other (entry.mark job mark)) ⌝ }
-{
-    match mark_gate(board.jobs, job, mark) {
-        Gate::Closed(refusal) => refused(refusal, board),
-        Gate::Open => {
-            let fact = marking(index(job), mark_value(mark));
-            enter(board, Stated::One(fact), Answer::Accepted)
-        }
-    }
-}
-
-// "the later E and the earlier D hold"
-fn cutting(job: usize, earliest: i32, latest: i32) -> Stated
-    ensures { λ r. ⌜ r ≡ Stated.Two (Fact.Bound Side.Early job earliest) (Fact.Bound Side.Late job latest) ⌝ }
-{
-    Stated::Two(
-        Fact::Bound {
-            side: Side::Early,
-            job,
-            time: earliest,
+    Entered {
+        answer: accepted,
+        board: Board {
+            jobs,
+            lengths,
+            earliest,
+            latest,
+            marks,
+            after,
+            before,
+            tally: board.tally,
         },
-        Fact::Bound {
-            side: Side::Late,
-            job,
-            time: latest,
-        },
-    )
+    }
 }
 
-pub fn cut(board: Board, job: i32, earliest: i32, latest: i32) -> Entered
+pub fn enter(board: Board, entry: Entry) -> Entered
     requires { ⌜ passes board ≡ true ⌝ }
-    ensures { λ r. ⌜ r ≡ paper.enter board (entry.other (entry.cut job earliest latest)) ⌝ }
+    ensures { λ r. ⌜ r ≡ paper.enter board (entryOf entry) ⌝ }
 {
-    match cut_gate(board.jobs, job, earliest, latest) {
+    match entry_gate(board.jobs, entry) {
         Gate::Closed(refusal) => refused(refusal, board),
-        Gate::Open => {
-            let bounds = cutting(index(job), earliest, latest);
-            enter(board, bounds, Answer::Accepted)
-        }
+        Gate::Open => conclude(board, stated_by(entry), acceptance(board.jobs, entry)),
     }
 }

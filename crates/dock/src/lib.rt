@@ -3,6 +3,7 @@ use board::Board;
 use board::Refusal;
 use check0::passes;
 use entries::Entered;
+use entries::Entry;
 use entries::PairAnswer;
 use entries::RowAnswer;
 use tries::PlanAnswer;
@@ -11,6 +12,7 @@ ghost use mathlib.Core.Path.{_≡_};
 ghost use Rattle.closure.specs.Check as check;
 ghost use Rattle.entries.specs.Paper.Entry as entry;
 ghost use Rattle.entries.specs.Paper.Enter as paper;
+ghost use Rattle.entries.specs.Paper.Values.{entryOf};
 ghost use Rattle.entries.specs.Paper.Looking as looking;
 ghost use Rattle.tries.specs.Paper.Planner as planning;
 
@@ -27,48 +29,43 @@ impl Dock {
         passes(self.board)
     }
 
+    // An entry of any sort.
+    pub fn enter(self, entry: Entry) -> Entered
+        ensures { λ r. ⌜ r ≡ paper.enter (self .board) (entryOf entry) ⌝ }
+    {
+        if self.passes() {
+            calls::enter(self.board, entry)
+        } else {
+            answers::refused(Refusal::Board, self.board)
+        }
+    }
+
     // "Addition: length, E, D, mark 0 or 1; gives the job's number."
     pub fn addition(self, length: i32, earliest: i32, latest: i32, mark: i32) -> Entered
         ensures { λ r. ⌜ r ≡ paper.enter (self .board) (entry.addition length earliest latest mark) ⌝ }
     {
-        if self.passes() {
-            calls::addition(self.board, length, earliest, latest, mark)
-        } else {
-            statements::refused(Refusal::Board, self.board)
-        }
+        self.enter(Entry::addition(length, earliest, latest, mark))
     }
 
     // "Arc A to B: if both take place, A ends no later than B starts."
     pub fn arc(self, from: i32, to: i32) -> Entered
         ensures { λ r. ⌜ r ≡ paper.enter (self .board) (entry.other (entry.arc from to)) ⌝ }
     {
-        if self.passes() {
-            calls::arc(self.board, from, to)
-        } else {
-            statements::refused(Refusal::Board, self.board)
-        }
+        self.enter(Entry::arc(from, to))
     }
 
     // "Mark a job 1 or 2."
     pub fn mark(self, job: i32, mark: i32) -> Entered
         ensures { λ r. ⌜ r ≡ paper.enter (self .board) (entry.other (entry.mark job mark)) ⌝ }
     {
-        if self.passes() {
-            calls::mark(self.board, job, mark)
-        } else {
-            statements::refused(Refusal::Board, self.board)
-        }
+        self.enter(Entry::mark(job, mark))
     }
 
     // "Cut a job with a window E, D: the later E and the earlier D hold."
     pub fn cut(self, job: i32, earliest: i32, latest: i32) -> Entered
         ensures { λ r. ⌜ r ≡ paper.enter (self .board) (entry.other (entry.cut job earliest latest)) ⌝ }
     {
-        if self.passes() {
-            calls::cut(self.board, job, earliest, latest)
-        } else {
-            statements::refused(Refusal::Board, self.board)
-        }
+        self.enter(Entry::cut(job, earliest, latest))
     }
 
     // "Row of a job: mark, E, D, the set before it and the set after it."

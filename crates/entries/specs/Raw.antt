@@ -26,7 +26,7 @@ uncons : (f : Fact) (fs : List Fact) (v : View) → HoldAll (f ∷ fs) v → Hol
 uncons f fs v hs = (hs f (List·Memᴰ·head refl), λ g m. hs g (List·Memᴰ·tail m))
 
 -- all the facts are shown, or no view above b that obeys the rules shows them
-updated-all : (b : Board) → Within b → (fs : List Fact) → KnownAll (b .jobs) fs → Extends (b .jobs) (HoldAll fs) b (updateAll b fs)
+pub updated-all : (b : Board) → Within b → (fs : List Fact) → KnownAll (b .jobs) fs → Extends (b .jobs) (HoldAll fs) b (updateAll b fs)
 unfolding updateAll
 updated-all b h [] known =
     record { more = above-self b h; meets = λ f m. absurd (List·Memᴰ·not-nil m); least = λ w up ob hs. up }

@@ -4,6 +4,7 @@ use board::Refusal;
 use board::range::between;
 use board::range::is_length;
 use board::range::is_time;
+use entries::Entry;
 ghost use mathlib.Core.Path.{_≡_};
 ghost use mathlib.Core.Bool.{_&&_};
 ghost use mathlib.Core.List.{List, [], _∷_};
@@ -13,6 +14,7 @@ ghost use Rattle.minutes.specs.Linear.{eqZ};
 ghost use Rattle.board.specs.Paper.Tests as tests;
 ghost use Rattle.entries.specs.Paper.Entry as entry;
 ghost use Rattle.entries.specs.Paper.Gate as paper;
+ghost use Rattle.entries.specs.Paper.Values.{entryOf};
 ghost use Rattle.entries.specs.Paper.Gate.{Check, isJob, jobCheck, pairChecks, timeCheck, windowCheck, checks, budgetCheck, gate};
 ghost use Rattle.gate.specs.Values.{refusalOf};
 
@@ -108,7 +110,7 @@ fn window_lines(earliest: i32, latest: i32, rest: Gate) -> Gate
 }
 
 // 2 job, 7 mark
-pub fn mark_gate(jobs: usize, job: i32, mark: i32) -> Gate
+fn mark_gate(jobs: usize, job: i32, mark: i32) -> Gate
     ensures { λ r. ⌜ refusalOf r ≡ gate (checks jobs (entry.other (entry.mark job mark))) ⌝ }
 {
     let taken = between(Board::VALID as i32, Board::INVALID as i32, mark);
@@ -120,7 +122,7 @@ pub fn mark_gate(jobs: usize, job: i32, mark: i32) -> Gate
 }
 
 // 2 job, 5 time, 6 window
-pub fn cut_gate(jobs: usize, job: i32, earliest: i32, latest: i32) -> Gate
+fn cut_gate(jobs: usize, job: i32, earliest: i32, latest: i32) -> Gate
     ensures { λ r. ⌜ refusalOf r ≡ gate (checks jobs (entry.other (entry.cut job earliest latest))) ⌝ }
 {
     line(
@@ -131,7 +133,7 @@ pub fn cut_gate(jobs: usize, job: i32, earliest: i32, latest: i32) -> Gate
 }
 
 // 1 full, 4 length, 5 time, 6 window, 7 mark
-pub fn addition_gate(jobs: usize, length: i32, earliest: i32, latest: i32, mark: i32) -> Gate
+fn addition_gate(jobs: usize, length: i32, earliest: i32, latest: i32, mark: i32) -> Gate
     ensures { λ r. ⌜ refusalOf r ≡ gate (checks jobs (entry.addition length earliest latest mark)) ⌝ }
 {
     let taken = between(Board::UNDECIDED as i32, Board::VALID as i32, mark);
@@ -144,6 +146,27 @@ pub fn addition_gate(jobs: usize, length: i32, earliest: i32, latest: i32, mark:
             window_lines(earliest, latest, line(Refusal::Mark, !taken, Gate::Open)),
         ),
     )
+}
+
+// The checks 1 to 7, as far as the entry's sort has them.
+pub fn entry_gate(jobs: usize, entry: Entry) -> Gate
+    ensures { λ r. ⌜ refusalOf r ≡ gate (checks jobs (entryOf entry)) ⌝ }
+{
+    match entry {
+        Entry::Addition {
+            length,
+            earliest,
+            latest,
+            mark,
+        } => addition_gate(jobs, length, earliest, latest, mark),
+        Entry::Arc { from, to } => pair_gate(jobs, from, to),
+        Entry::Mark { job, mark } => mark_gate(jobs, job, mark),
+        Entry::Cut {
+            job,
+            earliest,
+            latest,
+        } => cut_gate(jobs, job, earliest, latest),
+    }
 }
 
 // "a budget, 0 to 1000000"

@@ -1,3 +1,3 @@
 -- What an entry states, as code.
 pub mod Stated
-pub mod Concluded
+pub mod StatedBy

@@ -1,27 +1,37 @@
 -- What an entry states: the board that shows it, nothing inferred yet; and when the code can put it there.
-use mathlib.Core.Path.{_≡_, refl, sym, _∙_, subst}
+use mathlib.Core.Path.{_≡_, refl, sym, _∙_, subst, subst⁻¹}
+use mathlib.Core.Logic.{⊎-elim}
 use mathlib.Core.Bool.{Bool, true, false}
-use mathlib.Core.List.{List, [], _∷_}
+use mathlib.Core.List.{List, [], _∷_, List·Memᴰ·cases-cons, List·Memᴰ·eq-of-singleton}
 use mathlib.Core.Option.{Option, none, some}
 use Prim.Native.Nat.{ℕ, suc, _<_, _≤_}
 use lib.IntN.{ℤ}
 use lib.ListN.{set}
 use Rattle.board.specs.declared.Board.{Board}
 use Rattle.board.specs.Paper.Facts.{Fact, Known}
-use Rattle.board.specs.Paper.Limits.{jobLimit, Within}
+use Rattle.board.specs.Paper.View as Rows
+use Rattle.board.specs.Paper.Limits.{jobLimit, Fits, Within}
 use Rattle.board.specs.Paper.Values.{factOf}
 use Rattle.board.specs.Update.Filled.{filled, possibly, ArraysWithin, Alters}
 use Rattle.board.specs.Update.Updates.{append, update, _andThen_}
-use Rattle.board.specs.Update.Extension.{Updated}
+use Rattle.board.specs.Update.Extension.{Extends, HasRow, Updated}
+use Rattle.board.specs.Update.Appended.{appended}
 use Rattle.board.specs.Update.Updated.{updated}
 use Rattle.updates.specs.Applicable.{Timely}
 use Rattle.closure.specs.Due.{known-more}
+use Rattle.entries.specs.Allowed.{KnownAll}
+use Rattle.entries.specs.Made.{HoldAll}
+use Rattle.entries.specs.Raw.{updated-all}
 use Rattle.entries.specs.Paper.Enter.{updateAll}
 use Rattle.statements.specs.declared.stated.Stated.{Stated}
 use Rattle.statements.specs.declared.stated.Stated.the-variants.{Row, One, Two}
 
+-- the row that is stated
+abbrev pub rowOf : ℤ → ℤ → ℤ → ℕ → Rows.Row
+rowOf length earliest latest mark = record { mark = mark; length = length; earliest = earliest; latest = latest }
+
 abbrev pub rawOf : Board → Stated → Option Board
-rawOf b (Row length earliest latest mark) = some (append b (record { mark = mark; length = length; earliest = earliest; latest = latest }))
+rawOf b (Row length earliest latest mark) = some (append b (rowOf length earliest latest mark))
 rawOf b (One f) = updateAll b (factOf f ∷ [])
 rawOf b (Two f g) = updateAll b (factOf f ∷ factOf g ∷ [])
 
@@ -34,9 +44,9 @@ jobsWith n (Two f g) = n
 abbrev pub grown : Board → Stated → Board
 grown b s = record { jobs = jobsWith (b .jobs) s; lengths = b .lengths; earliest = b .earliest; latest = b .latest; marks = b .marks; after = b .after; before = b .before; tally = b .tally }
 
--- there is a place for the row, and the facts are about jobs of the board
+-- there is a place for the row, which is within its limits, and the facts are about jobs of the board
 abbrev pub Admissible : ℕ → Stated → Type 0
-Admissible n (Row length earliest latest mark) = n < jobLimit
+Admissible n (Row length earliest latest mark) = (n < jobLimit) × Fits (rowOf length earliest latest mark) × (mark ≤ 1)
 Admissible n (One f) = Known n (factOf f) × Timely f
 Admissible n (Two f g) = Known n (factOf f) × Timely f × Known n (factOf g) × Timely g
 
@@ -57,6 +67,24 @@ pub placed : (n : ℕ) (s : Stated) → n ≤ jobLimit → Admissible n s → Pl
 placed n (Row length earliest latest mark) l h = tt
 placed n (One f) l (known, _) = known-more l (factOf f) known
 placed n (Two f g) l (first, _, second, _) = (known-more l (factOf f) first, known-more l (factOf g) second)
+
+-- the board that shows what is stated is within its limits
+module _ (b : Board) (h : Within b) where
+  facts-within : (fs : List Fact) → KnownAll (b .jobs) fs → (c : Board) → updateAll b fs ≡ some c → Within c
+  facts-within fs known c is = subst (Extends (b .jobs) (HoldAll fs) b) is (updated-all b h fs known) .more .within
+
+  pub stated-within : (s : Stated) → Admissible (b .jobs) s → (c : Board) → rawOf b s ≡ some c → Within c
+  stated-within (Row length earliest latest mark) (room, fits, low) c is =
+      let r = rowOf length earliest latest mark in
+      subst (Extends (suc (b .jobs)) (HasRow (b .jobs) r) b) is (appended b r h room fits low) .more .within
+  stated-within (One f) (known, _) c is =
+      facts-within (factOf f ∷ []) (λ x m. subst⁻¹ (Known (b .jobs)) (List·Memᴰ·eq-of-singleton m) known) c is
+  stated-within (Two f g) (first, _, second, _) c is = facts-within (factOf f ∷ factOf g ∷ []) either c is
+    where
+      either : KnownAll (b .jobs) (factOf f ∷ factOf g ∷ [])
+      either x m =
+          ⊎-elim (λ e. subst⁻¹ (Known (b .jobs)) e first) (λ l. subst⁻¹ (Known (b .jobs)) (List·Memᴰ·eq-of-singleton l) second)
+          (List·Memᴰ·cases-cons m)
 
 -- ---- facts that the board shows
 

@@ -1,4 +1,4 @@
-// What an entry states that its gate has let pass, and what it does to a board's arrays before anything is inferred.
+// What is stated, put on a board's arrays in place: the board that shows it, nothing inferred yet.
 use board::Board;
 use board::facts::Fact;
 use closure::due::added;

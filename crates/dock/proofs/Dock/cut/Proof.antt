@@ -1,29 +1,15 @@
--- `dock::Dock::cut` meets its contract: check 0 comes first. Assumes nothing.
-use mathlib.Core.Path.{sym, _∙_}
+-- `dock::Dock::cut` meets its contract: it is an entry of its sort. Assumes nothing.
+use mathlib.Core.Path.{_∙_, ap}
 use borrow.Author.Needs.{needs}
 use mir.ValLaws.{toZ-ofZ}
-use Rattle.entries.specs.Stepped.{enter-refused}
+use Rattle.entries.specs.Paper.Enter as paper
 use Rattle.dock.proofs.Dock.cut.Statement.{statement}
 use Rattle.dock.proofs.Dock.cut.Tie as tie
 
-passes-requires : tie.Need-passes-requires
-passes-requires c κs = search needs
-
-cut-requires : tie.Need-cut-requires
-cut-requires c κs = sym (c .before .passes .ensures) ∙ c .if1 .taken
-
-refused-requires : tie.Need-refused-requires
-refused-requires c κs = search needs
-
 returns : tie.Need-returns
 returns c =
-    let f = c .before .before .before .fits in
-    simp (toZ-ofZ, f .job, f .earliest, f .latest) at (c .cut .ensures)
-
-returns-2 : tie.Need-returns-2
-returns-2 c =
-    let fails = sym (c .before .before .passes .ensures) ∙ c .before .if1 .left in
-    c .refused .ensures ∙ sym (enter-refused _ _ fails)
+    let f = c .before .before .fits in
+    c .enter .ensures ∙ ap (paper.enter _) (simp (toZ-ofZ, f .job, f .earliest, f .latest) at (c .before .cut .ensures))
 
 pub cut-spec : {M : Type 1} → statement M
-cut-spec = tie.close (tie.spec passes-requires cut-requires refused-requires returns returns-2)
+cut-spec = tie.close (tie.spec (λ c κs. search needs) (λ c κs. search needs) returns)

@@ -10,7 +10,7 @@ due-to-spec =
     tie.close
     (tie.spec
     (λ c. search needs)
-    (λ c κs. (rw (c .enum-told .given .1) at (c .before .before .pre)) .0)
+    (λ c κs. (rw (c .enum-told .given .1) at (c .before .before .pre)) .0 .0)
     (λ c. search needs)
     (λ c κs. let (said, room) = rw (c .before .stated .given .1) at (c .before .before .before .pre) in known-more room (factOf (c .before .stated .given .0 .0)) (said .0))
     (λ c. search needs)

@@ -12,7 +12,7 @@ use Rattle.statements.proofs.stated.state.Tie as tie
 
 -- the row has a place
 room : (c : tie.After-known-told) → c .before .before .before .args .jobs < jobLimit
-room c = rw (c .before .stated .given .1) at (c .before .before .before .pre .1)
+room c = (rw (c .before .stated .given .1) at (c .before .before .before .pre .1)) .0
 
 returns : tie.Need-returns
 returns c b jobs within =

@@ -1,7 +1,7 @@
--- `statements::impossible` meets its contract. Assumes nothing.
+-- `answers::impossible` meets its contract. Assumes nothing.
 use borrow.Author.Needs.{needs}
-use Rattle.statements.proofs.impossible.Statement.{statement}
-use Rattle.statements.proofs.impossible.Tie as tie
+use Rattle.answers.proofs.impossible.Statement.{statement}
+use Rattle.answers.proofs.impossible.Tie as tie
 
 pub impossible-spec : {M : Type 1} → statement M
 impossible-spec =

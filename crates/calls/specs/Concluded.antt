@@ -1,9 +1,10 @@
--- What is stated, concluded: by the board that shows it, and by its closure.
-use mathlib.Core.Path.{_≡_, refl, sym, ap}
-use mathlib.Core.Bool.{true}
-use mathlib.Core.Option.{Option, none, some}
+-- What is stated, concluded: by the board that shows it already, or by the attempt.
+use mathlib.Core.Path.{_≡_}
+use mathlib.Core.Bool.{Bool, true, false}
+use mathlib.Core.Option.{Option, some}
 use Rattle.board.specs.declared.Board.{Board}
 use Rattle.board.specs.declared.Refusal.the-variants as Refused
+use Rattle.board.specs.Update.Filled.{possibly}
 use Rattle.board.specs.Update.Updates.{_andThen_}
 use Rattle.closure.specs.Check.{passes}
 use Rattle.closure.specs.Checked.{closed-already}
@@ -21,17 +22,9 @@ module _ (b : Board) (accepted : Answer) (raw : Option Board) where
   unfolding _andThen_
   shown-already p e = rw (e, closed-already b p)
 
-  -- a mark would have to change
-  pub none-stated : raw ≡ none → Concludes (refused Refused.Impossible (counted b))
-  unfolding _andThen_
-  none-stated e = rw e
+  module _ (possible : Bool) (c : Board) (attempted : (raw andThen closure) ≡ possibly possible c) where
+    pub is-impossible : possible ≡ false → Concludes (refused Refused.Impossible (counted b))
+    is-impossible t = rw (attempted, t)
 
-  module _ (c : Board) (e : raw ≡ some c) where
-    -- there is no closed board
-    pub none-closed : closure c ≡ none → Concludes (refused Refused.Impossible (counted b))
-    unfolding _andThen_
-    none-closed n = rw (e, n)
-
-    pub closed-board : (d : Board) → closure c ≡ some d → Concludes (record { answer = accepted; board = d })
-    unfolding _andThen_
-    closed-board d n = rw (e, n)
+    pub is-possible : possible ≡ true → Concludes (record { answer = accepted; board = c })
+    is-possible t = rw (attempted, t)

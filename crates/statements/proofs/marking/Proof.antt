@@ -1,7 +1,7 @@
--- `calls::marking` meets its contract, by the two cases. Assumes nothing.
+-- `statements::marking` meets its contract, by the two cases. Assumes nothing.
 use borrow.Author.Tests.{eq-eqb, ne-eqb}
-use Rattle.calls.proofs.marking.Statement.{statement}
-use Rattle.calls.proofs.marking.Tie as tie
+use Rattle.statements.proofs.marking.Statement.{statement}
+use Rattle.statements.proofs.marking.Tie as tie
 
 returns : tie.Need-returns
 returns c = rw (eq-eqb _ _ (c .if1 .taken))

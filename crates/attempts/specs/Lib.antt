@@ -1,0 +1,2 @@
+-- The attempt of an entry.
+pub mod Attempts
