@@ -1,8 +1,8 @@
 // Check 0: "the board handed in breaks a limit above, keeps something twice that doesn't agree, or isn't closed over what it
 // shows".
 use board::Board;
-use limits::marked::sets;
 use limits::within_limits;
+use marks::sets;
 use rules::Found;
 use search::find;
 ghost use mathlib.Core.Path.{_≡_};

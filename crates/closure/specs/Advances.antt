@@ -23,7 +23,7 @@ use Rattle.board.specs.Update.Filled.{filled, possibly, ArraysWithin}
 use Rattle.board.specs.Update.Strike.{strike}
 use Rattle.board.specs.Update.StrikeLaws.{strike-member, strike-other}
 use Rattle.board.specs.Update.Reaches.{Reached, Reaches, reached-self}
-use Rattle.limits.specs.Marked.{marked, unmarked, bit-live, bit-valid}
+use Rattle.marks.specs.Marked.{marked, unmarked, bit-live, bit-valid}
 use Rattle.exclusion.specs.Gone.{AllGone, gone-valid, struck-all}
 use Rattle.propagation.specs.Turns.{Turns, Onward, Shut}
 

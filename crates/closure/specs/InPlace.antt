@@ -17,7 +17,7 @@ use Rattle.board.specs.Update.Filled.{filled, arrayed, ArraysWithin, possibly, 
 use Rattle.board.specs.Update.Updates.{update}
 use Rattle.board.specs.Update.Reaches.{Reaches, reached-self, reaches-then, infers-known}
 use Rattle.updates.specs.Applicable.{Timely}
-use Rattle.limits.specs.Marked.{marked, unmarked}
+use Rattle.marks.specs.Marked.{marked, unmarked}
 use Rattle.rules.specs.Searched.{Searched}
 use Rattle.search.specs.PairsWalk.{ReadSearched}
 use Rattle.closure.specs.Advances.{Advances}

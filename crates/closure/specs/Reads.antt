@@ -7,7 +7,7 @@ use Rattle.board.specs.Paper.View.{early, late}
 use Rattle.board.specs.Paper.Limits.{Within}
 use Rattle.energy.specs.Energy.{Times, Lengths}
 use Rattle.energy.specs.Exact.{times-within, lengths-within}
-use Rattle.limits.specs.Marked.{marked, unmarked, bit-valid, bit-live}
+use Rattle.marks.specs.Marked.{marked, unmarked, bit-valid, bit-live}
 use Rattle.search.specs.PairsWalk.{Read}
 
 module _ (b : Board) (h : Within b) where

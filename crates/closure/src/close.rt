@@ -1,18 +1,18 @@
 // The closure: the rules applied until nothing is left to infer, or a mark would have to change. The board's arrays are altered in place.
 use crate::due::concerned;
 use board::Board;
-use limits::marked::Marks;
-use limits::marked::sets;
+use marks::Marks;
+use marks::sets;
 use propagation::agenda::Agenda;
 use propagation::propagate;
 use rules::Found;
 use search::find;
-use updates::strike;
+use strikes::strike;
 use updates::update;
 ghost use mathlib.Core.Path.{_≡_};
 ghost use mathlib.Core.Bool.{true};
 ghost use Rattle.board.specs.Update.Filled.{ArraysWithin, Alters};
-ghost use Rattle.limits.specs.Marked as sets;
+ghost use Rattle.marks.specs.Marked as sets;
 ghost use Rattle.closure.specs.Advances.{Advances};
 ghost use Rattle.closure.specs.Closing as closing;
 

@@ -22,7 +22,7 @@ use Rattle.board.specs.Paper.Tests.{between, isLength, isTime}
 use Rattle.board.specs.Tests.Limits.{isZero, isZeroRow, fits, withinLimits}
 use Rattle.board.specs.Tests.Decides.{Decides, restated, same-decision, holds, negated, _and_, eq}
 use Rattle.board.specs.Tests.LimitsDecided.{decides-between, decides-zero, decides-fits, decides-zeroRow, decides-limits, past, past-row}
-use Rattle.limits.specs.Agreement.{Agree}
+use Rattle.agreement.specs.Agreement.{Agree}
 
 -- ---- rows
 

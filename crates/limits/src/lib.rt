@@ -1,5 +1,5 @@
 // The test of "the board handed in breaks a limit above, [or] keeps something twice that doesn't agree".
-use crate::agreement::agree;
+use agreement::agree;
 use board::Board;
 use board::range::between;
 use board::range::is_length;
@@ -12,10 +12,6 @@ ghost use Rattle.board.specs.Tests.Decides.{Decides};
 ghost use Rattle.board.specs.Paper.Tests as tests;
 ghost use Rattle.board.specs.Tests.Limits as limits;
 ghost use Rattle.limits.specs.Limits as parts;
-
-mod agreement;
-pub mod marked;
-mod transpose;
 
 fn is_zero(z: i32) -> bool
     ensures { λ r. ⌜ r ≡ limits.isZero z ⌝ }

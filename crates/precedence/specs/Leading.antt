@@ -11,7 +11,7 @@ use Rattle.minutes.specs.Bools.{refuted}
 use Rattle.board.specs.Paper.View.{Side}
 use Rattle.board.specs.Paper.Values.{turned}
 use Rattle.energy.specs.Energy.{Sum}
-use Rattle.rules.specs.BoundBeyond.{pushing}
+use Rattle.job_rules.specs.BoundBeyond.{pushing}
 use Rattle.precedence.specs.declared.Leading.{Leading}
 
 -- where the set has members, the time is a sum of them

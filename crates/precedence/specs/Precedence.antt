@@ -26,8 +26,8 @@ use Rattle.board.specs.Update.Reaches.{Reached, Reaches, reached-self, reaches-
 use Rattle.energy.specs.Energy.{boundAt, lengthAt, Times, Lengths, Pushes}
 use Rattle.energy.specs.Exact.{timesOf}
 use Rattle.energy.specs.Laws.{turned-back, sum-range}
-use Rattle.rules.specs.BoundBeyond.{pushing}
-use Rattle.rules.specs.JobSearched.{wordsOf, beyond-bit, sum-infers}
+use Rattle.job_rules.specs.BoundBeyond.{pushing}
+use Rattle.job_rules.specs.JobSearched.{wordsOf, beyond-bit, sum-infers}
 use Rattle.exclusion.specs.Gone.{Gone, AllGone, Short, none-gone, only, both-gone, gone-before, gone-short}
 use Rattle.precedence.specs.Bounds.{turned-moderate}
 

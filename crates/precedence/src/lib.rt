@@ -3,9 +3,9 @@
 use board::Board;
 use board::facts::Side;
 use energy::EnergyBound;
-use rules::job::bound_beyond;
-use rules::job::is_lower;
-use rules::job::last;
+use job_rules::bound_beyond;
+use job_rules::is_lower;
+use job_rules::last;
 use windows::Window;
 ghost use mathlib.Core.Path.{_≡_};
 ghost use mathlib.Core.List.{List};

@@ -1,8 +1,5 @@
-// The rules as a search applies them: what they infer of one job, and of one pair of jobs, that the board doesn't show yet.
+// What a search finds: a fact that the rules infer and that the board doesn't show yet, or nothing.
 use board::facts::Fact;
-
-pub mod job;
-pub mod pair;
 
 pub enum Found {
     Nothing,

@@ -20,10 +20,10 @@ use Rattle.board.specs.Paper.Limits.{jobLimit, Within}
 use Rattle.board.specs.Paper.Tests.{live}
 use Rattle.board.specs.Tests.Decides.{Decides, retested, _and_, negated, holds, live-is}
 use Rattle.board.specs.Inference.Infers.{Obeys}
-use Rattle.rules.specs.JobSearched.{JobRead, JobSettled}
-use Rattle.rules.specs.JobSearched as jobs
+use Rattle.job_rules.specs.JobSearched.{JobRead, JobSettled}
+use Rattle.job_rules.specs.JobSearched as jobs
 use Rattle.rules.specs.Searched.{Searched, PairObeys}
-use Rattle.rules.specs.Settled.{Settled}
+use Rattle.job_rules.specs.Settled.{Settled}
 use Rattle.search.specs.declared.Pair.{Pair}
 use Rattle.search.specs.declared.Pair.the-variants.{None, At}
 use Rattle.search.specs.Rows.{RowRead}

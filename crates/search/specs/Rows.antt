@@ -17,7 +17,7 @@ use Rattle.board.specs.Paper.Limits.{Within, jobLimit}
 use Rattle.board.specs.Paper.Rules.{E, D, L}
 use Rattle.board.specs.Paper.Tests.{live, valid}
 use Rattle.board.specs.Tests.Decides.{Decides, retested, _and_, holds, live-is, valid-is}
-use Rattle.rules.specs.PairSearched.{PairRead}
+use Rattle.pair_rules.specs.PairSearched.{PairRead}
 use Rattle.search.specs.Partners.{OrderKnown, OrderLeft, JoinKnown, JoinLeft, or-parts}
 use Rattle.search.specs.Settled.{PairsLeft}
 

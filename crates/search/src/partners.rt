@@ -1,6 +1,6 @@
 // The jobs to pair with a job: those at which R1, R2 or R3 may infer something that the other pairs and the jobs don't tell.
 use board::Board;
-use rules::pair::is_late;
+use pair_rules::is_late;
 ghost use mathlib.Core.Path.{_≡_};
 ghost use mathlib.Core.Bool.{_&&_};
 ghost use Prim.Native.Nat.{ℕ, _<_};

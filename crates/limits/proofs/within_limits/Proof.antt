@@ -10,7 +10,7 @@ use Rattle.board.specs.Paper.Limits.{Shape}
 use Rattle.board.specs.Tests.Limits.{withinLimits}
 use Rattle.board.specs.Tests.Decides.{Decides, failed, second-asked, first-failed, same-decision}
 use Rattle.board.specs.Tests.LimitsDecided.{decides-limits}
-use Rattle.limits.specs.Agreement.{Agree}
+use Rattle.agreement.specs.Agreement.{Agree}
 use Rattle.limits.specs.Limits.{Held, limits-tested}
 use Rattle.limits.proofs.within_limits.Statement.{statement}
 use Rattle.limits.proofs.within_limits.Tie as tie

@@ -17,7 +17,7 @@ use Rattle.board.specs.Tests.Live.{valid-yes}
 use Rattle.board.specs.Tests.Ranges.{ranges, greater-time, time-moderate, length-moderate}
 use Rattle.energy.specs.Exact.{lengths-within}
 use Rattle.energy.specs.Laws.{time-fits, length-fits}
-use Rattle.limits.specs.Marked.{bit-valid}
+use Rattle.marks.specs.Marked.{bit-valid}
 use Rattle.tries.specs.Paper.Tries.{startAfter, ready, inTime}
 use Rattle.planner.specs.Rest.{stack}
 use Rattle.planner.specs.Waiting.{order}

@@ -7,7 +7,7 @@ use mir.Val.{SFits}
 use mir.ValLaws.{toZ-ofZ}
 use Rattle.board.specs.Paper.Values.{sideOf, turned}
 use Rattle.energy.specs.Energy.{Pushes}
-use Rattle.rules.specs.BoundBeyond.{pushing}
+use Rattle.job_rules.specs.BoundBeyond.{pushing}
 use Rattle.precedence.specs.Leading.{unknown-leaves}
 use Rattle.precedence.proofs.leading_to.Statement.{statement}
 use Rattle.precedence.proofs.leading_to.Tie as tie

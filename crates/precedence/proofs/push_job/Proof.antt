@@ -14,7 +14,7 @@ use Rattle.board.specs.Paper.Values.{sideOf, turned}
 use Rattle.board.specs.Tests.Ranges.{time-moderate}
 use Rattle.energy.specs.Energy.{Pushes}
 use Rattle.energy.specs.Laws.{time-fits, length-fits, length-moderate}
-use Rattle.rules.specs.BoundBeyond.{pushing}
+use Rattle.job_rules.specs.BoundBeyond.{pushing}
 use Rattle.precedence.specs.Bounds.{below}
 use Rattle.precedence.specs.Leading.{LeadsTo}
 use Rattle.precedence.specs.Precedence.{raises-none, raises-then, shuts-none, shuts-job, times-set, room-time, pushed-moderate}

@@ -10,8 +10,8 @@ use Rattle.board.specs.Paper.Limits.{jobLimit}
 use Rattle.board.specs.Paper.View.{view}
 use Rattle.rules.specs.Values.{inferredOf}
 use Rattle.rules.specs.Searched.{Searched}
-use Rattle.rules.specs.JobSearched.{JobSettled, read-early, read-late}
-use Rattle.rules.specs.Dominance.{represented}
+use Rattle.job_rules.specs.JobSearched.{JobSettled, read-early, read-late}
+use Rattle.job_rules.specs.Dominance.{represented}
 use Rattle.search.specs.PairsWalk.{Read, JobsLeft, all-left, done-settled}
 use borrow.Author.Needs.{needs}
 use Rattle.search.proofs.at_jobs.Statement.{statement}

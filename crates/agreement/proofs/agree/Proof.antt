@@ -1,0 +1,21 @@
+-- `agreement::agree` meets its contract: the transpose of the one side is compared with the other. Assumes nothing.
+use denote.Ref.{now}
+use borrow.Author.Needs.{needs}
+use Rattle.agreement.specs.Agreement.{agree-same}
+use Rattle.agreement.proofs.agree.Statement.{statement}
+use Rattle.agreement.proofs.agree.Tie as tie
+
+transpose-requires : tie.Need-transpose-requires
+transpose-requires c κs = search needs
+
+same-words-requires : tie.Need-same-words-requires
+same-words-requires c κs = search needs
+
+returns : tie.Need-returns
+returns c =
+    let start = c .before .before .before in
+    agree-same (now (start .args .after)) (now (start .args .before)) (c .before .before .transpose .result)
+    (c .before .before .transpose .ensures) (c .same-words .ensures)
+
+pub agree-spec : {M : Type 1} → statement M
+agree-spec = tie.close (tie.spec transpose-requires same-words-requires returns)

@@ -1,0 +1,2 @@
+-- A bound put on a job's window, as code.
+pub mod Tightened

@@ -1,0 +1,39 @@
+-- `job_rules::bound_beyond` meets its contract: no jobs, or what these jobs leave. Assumes nothing.
+use borrow.Author.Needs.{needs}
+use Rattle.board.specs.Paper.Values.{sideOf}
+use Rattle.energy.specs.Energy.{boundOf}
+use Rattle.job_rules.specs.BoundBeyond.{said, none-beyond}
+use Rattle.job_rules.proofs.bound_beyond.Statement.{statement}
+use Rattle.job_rules.proofs.bound_beyond.Tie as tie
+
+mul-intersection : tie.Need-mul-intersection
+mul-intersection c = search needs
+
+element-copy-out-intersection : tie.Need-element-copy-out-intersection
+element-copy-out-intersection c = search needs
+
+intersection-requires : tie.Need-intersection-requires
+intersection-requires c κs = search needs
+
+returns : tie.Need-returns
+returns c = none-beyond _ _ _ _ _ _ _ (c .before .intersection .ensures) (c .if1 .taken)
+
+bound-of-requires : tie.Need-bound-of-requires
+bound-of-requires c κs = search needs
+
+returns-2 : tie.Need-returns-2
+returns-2 c =
+    let met = c .before .before in
+    let side = sideOf (met .before .before .args .side) in
+    said side _ _ _ _ _ _ (met .intersection .ensures) (boundOf side (c .bound-of .result)) (c .bound-of .ensures)
+
+pub bound-beyond-spec : {M : Type 1} → statement M
+bound-beyond-spec =
+    tie.close
+    (tie.spec
+    mul-intersection
+    element-copy-out-intersection
+    intersection-requires
+    returns
+    bound-of-requires
+    returns-2)

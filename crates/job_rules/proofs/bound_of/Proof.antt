@@ -1,0 +1,129 @@
+-- `job_rules::bound_of` meets its contract: the last one alone or with those that stand apart, or all sums. Assumes nothing.
+use borrow.Author.Needs.{needs}
+use lib.IntN.{pos}
+use lib.ListN.{getD}
+use mir.Syntax.{w32}
+use mir.Val.{toZ, ofZ}
+use mir.ValLaws.{toZ-ofZ}
+use Rattle.minutes.specs.Time.{Moderate}
+use Rattle.board.specs.Paper.Values.{sideOf}
+use Rattle.board.specs.Tests.Ranges.{time-moderate}
+use Rattle.energy.specs.Energy.{boundOf}
+use Rattle.energy.specs.Laws.{time-fits}
+use Rattle.job_rules.specs.BoundBeyond.{last-ends-by, last-alone, all-sums}
+use Rattle.job_rules.proofs.bound_of.Statement.{statement}
+use Rattle.job_rules.proofs.bound_of.Tie as tie
+
+-- from the jobs that stand apart to the entry
+abbrev start-of : tie.After-standing-apart → tie.Start
+start-of c = c .before .before .before
+
+-- the job's own bound as a floor
+floor-moderate : (start : tie.Start) → Moderate (toZ w32 (ofZ w32 (getD (start .args .times .now) (start .args .job) (pos 0))))
+floor-moderate start =
+    let t = start .pre .2 .time (start .args .job) in
+    simp (toZ-ofZ, time-fits t) (time-moderate t)
+
+last-requires : tie.Need-last-requires
+last-requires c κs = search needs
+
+mul-standing-apart : tie.Need-mul-standing-apart
+mul-standing-apart c = search needs
+
+element-copy-out-standing-apart : tie.Need-element-copy-out-standing-apart
+element-copy-out-standing-apart c = search needs
+
+standing-apart-requires : tie.Need-standing-apart-requires
+standing-apart-requires c κs = search needs
+
+mul-single-bound : tie.Need-mul-single-bound
+mul-single-bound c = search needs
+
+element-copy-out-single-bound : tie.Need-element-copy-out-single-bound
+element-copy-out-single-bound c = search needs
+
+single-bound-requires : tie.Need-single-bound-requires
+single-bound-requires c κs =
+    let apart = c .before .before in
+    let start = start-of apart in
+    let (_, _, hours, work) = start .pre in
+    (hours, work, apart .before .before .last .ensures .0, floor-moderate start)
+
+returns : tie.Need-returns
+returns c =
+    let apart = c .before .before .before in
+    let start = start-of apart in
+    let found = apart .before .before .last in
+    let a = start .args in
+    let told = simp (toZ-ofZ, time-fits (start .pre .2 .time (a .job))) at (c .single-bound .ensures) in
+    let side = sideOf (a .side) in
+    rw told
+    (last-alone side (a .times .now) (a .lengths .now) (a .beyond .now) (a .job) (a .set) (found .result) _ (found .ensures .0) (found .ensures .1) (apart .standing-apart .ensures) (c .before .before .if1 .taken))
+
+without-requires : tie.Need-without-requires
+without-requires c κs = search needs
+
+mul-ends-by : tie.Need-mul-ends-by
+mul-ends-by c = search needs
+
+element-copy-out-ends-by : tie.Need-element-copy-out-ends-by
+element-copy-out-ends-by c = search needs
+
+ends-by-requires : tie.Need-ends-by-requires
+ends-by-requires c κs =
+    let apart = c .before .before .before .before .before in
+    let start = start-of apart in
+    let (_, _, hours, work) = start .pre in
+    (hours, work, apart .before .before .last .ensures .0, floor-moderate start)
+
+returns-2 : tie.Need-returns-2
+returns-2 c =
+    let apart = c .before .before .before .before .before .before .before in
+    let start = start-of apart in
+    let found = apart .before .before .last in
+    let a = start .args in
+    let ends = simp (toZ-ofZ, time-fits (start .pre .2 .time (a .job))) at (c .before .ends-by .ensures (c .if4 .taken)) in
+    let side = sideOf (a .side) in
+    last-ends-by side (a .times .now) (a .lengths .now) (a .beyond .now) (a .job) (a .set) (found .result) _ (found .ensures .0) (found .ensures .1) (apart .standing-apart .ensures) ends
+
+mul-energy-bound : tie.Need-mul-energy-bound
+mul-energy-bound c = search needs
+
+element-copy-out-energy-bound : tie.Need-element-copy-out-energy-bound
+element-copy-out-energy-bound c = search needs
+
+energy-bound-requires : tie.Need-energy-bound-requires
+energy-bound-requires c κs =
+    let start = start-of (c .before .before .before) in
+    let (_, _, hours, work) = start .pre in
+    (hours, work, floor-moderate start)
+
+returns-3 : tie.Need-returns-3
+returns-3 c =
+    let start = start-of (c .before .before .before .before) in
+    let a = start .args in
+    let told = simp (toZ-ofZ, time-fits (start .pre .2 .time (a .job))) at (c .energy-bound .ensures) in
+    let side = sideOf (a .side) in
+    all-sums side (a .times .now) (a .lengths .now) (a .beyond .now) (a .job) (a .set) (boundOf side (c .energy-bound .result)) told
+
+pub bound-of-spec : {M : Type 1} → statement M
+bound-of-spec =
+    tie.close
+    (tie.spec
+    last-requires
+    mul-standing-apart
+    element-copy-out-standing-apart
+    standing-apart-requires
+    mul-single-bound
+    element-copy-out-single-bound
+    single-bound-requires
+    returns
+    without-requires
+    mul-ends-by
+    element-copy-out-ends-by
+    ends-by-requires
+    returns-2
+    mul-energy-bound
+    element-copy-out-energy-bound
+    energy-bound-requires
+    returns-3)

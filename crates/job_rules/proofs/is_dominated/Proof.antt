@@ -1,0 +1,31 @@
+-- `job_rules::is_dominated` meets its contract: nothing of the set is left without the word, and the time is not lower. Assumes nothing.
+use borrow.Author.Needs.{needs}
+use borrow.Author.Tests.{not-true}
+use mathlib.Core.Path.{refl, sym, _∙_}
+use mir.ValLaws.{toZ-ofZ}
+use Rattle.words.specs.BitLaws.{subset-yes}
+use Rattle.minutes.specs.Bools.{refuted}
+use Rattle.job_rules.specs.Dominance.{tested}
+use Rattle.job_rules.proofs.is_dominated.Statement.{statement}
+use Rattle.job_rules.proofs.is_dominated.Tie as tie
+
+difference-requires : tie.Need-difference-requires
+difference-requires c κs = search needs
+
+returns : tie.Need-returns
+returns c e = absurd (refuted refl e)
+
+is-lower-requires : tie.Need-is-lower-requires
+is-lower-requires c κs = search needs
+
+returns-2 : tie.Need-returns-2
+returns-2 c e =
+    let start = c .before .before .before in
+    let a = start .args in
+    let fits = start .fits in
+    let lower = simp (toZ-ofZ, fits .time, fits .other) at (c .is-lower .ensures) in
+    tested (subset-yes 64 (a .set) (a .word) (fits .set .fits) (fits .word .fits) (sym (c .before .before .difference .ensures) ∙ c .before .if1 .left))
+    (sym lower ∙ not-true (c .is-lower .result) e)
+
+pub is-dominated-spec : {M : Type 1} → statement M
+is-dominated-spec = tie.close (tie.spec difference-requires returns is-lower-requires returns-2)

@@ -1,0 +1,76 @@
+-- `job_rules::last` meets its contract. The loop's invariant: k is a job of the set. The measure is the steps that are left. Assumes
+-- nothing.
+use mathlib.Core.Path.{_≡_, sym, ap, _∙_}
+use mathlib.Core.Bool.{true}
+use lib.ListN.{getD}
+use Prim.Native.Nat.{_<_, _≤_, _-_}
+use Rattle.words.specs.Bit.{bit}
+use Rattle.words.specs.BitLaws.{bit-intersection}
+use Rattle.minutes.specs.Bools.{and-parts}
+use Rattle.board.specs.Paper.Limits.{jobLimit}
+use borrow.Author.Needs.{needs}
+use Rattle.job_rules.proofs.last.Statement.{statement}
+use Rattle.job_rules.proofs.last.Tie as tie
+
+abbrev Inv-loop : tie.InvT-loop
+Inv-loop set opposite k₀ counter₀ k counter = (counter ≤ jobLimit) × (k < jobLimit) × (bit set k ≡ true)
+
+abbrev μ-loop : tie.MeasureT-loop
+μ-loop set opposite k₀ counter₀ k counter = jobLimit - counter
+
+lowest-requires : tie.Need-lowest-requires Inv-loop μ-loop
+lowest-requires c κs = search needs
+
+loop-holds : tie.Need-loop-holds Inv-loop μ-loop
+loop-holds c = search needs
+
+mul-intersection : tie.Need-mul-intersection Inv-loop μ-loop
+mul-intersection c = search needs
+
+element-copy-out-intersection : tie.Need-element-copy-out-intersection Inv-loop μ-loop
+element-copy-out-intersection c = search needs
+
+intersection-requires : tie.Need-intersection-requires Inv-loop μ-loop
+intersection-requires c κs = search needs
+
+returns : tie.Need-returns Inv-loop μ-loop
+returns c = let (_, place, member) = c .before .before .before .before .loop .inv in (place, member)
+
+lowest-requires-2 : tie.Need-lowest-requires-2 Inv-loop μ-loop
+lowest-requires-2 c κs = search needs
+
+add-counter : tie.Need-add-counter Inv-loop μ-loop
+add-counter c = search needs
+
+loop-less : tie.Need-loop-less Inv-loop μ-loop
+loop-less c = search needs
+
+loop-again : tie.Need-loop-again Inv-loop μ-loop
+loop-again c =
+    let at = c .before .before .before .before .before in
+    let a = at .before .before .args in
+    let k = c .lowest2 .result in
+    let word = getD (a .opposite .now) (at .loop .k) 0 in
+    let both = sym (ap (λ w. bit w k) (c .before .before .intersection .ensures) ∙ bit-intersection word (a .set) k) ∙ c .lowest2 .ensures .member in
+    (search needs, c .lowest2 .ensures .width, and-parts (bit word k) (bit (a .set) k) both .1)
+
+returns-2 : tie.Need-returns-2 Inv-loop μ-loop
+returns-2 c = let (_, place, member) = c .before .loop .inv in (place, member)
+
+pub last-spec : {M : Type 1} → statement M
+last-spec =
+    tie.close
+    (tie.spec
+    Inv-loop
+    μ-loop
+    lowest-requires
+    loop-holds
+    mul-intersection
+    element-copy-out-intersection
+    intersection-requires
+    returns
+    lowest-requires-2
+    add-counter
+    loop-less
+    loop-again
+    returns-2)

@@ -1,0 +1,2 @@
+-- Sets of jobs by their marks, as code.
+pub mod Marked

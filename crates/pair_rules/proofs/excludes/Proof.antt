@@ -1,0 +1,32 @@
+-- `pair_rules::excludes` meets its contract: the arcs both ways are the intersection of the two sets. Assumes nothing.
+use mathlib.Core.Path.{sym, ap, _∙_}
+use Rattle.words.specs.Bit.{bit}
+use Rattle.words.specs.BitLaws.{bit-intersection}
+use borrow.Author.Needs.{needs}
+use Rattle.pair_rules.proofs.excludes.Statement.{statement}
+use Rattle.pair_rules.proofs.excludes.Tie as tie
+
+intersection-requires : tie.Need-intersection-requires
+intersection-requires c κs = search needs
+
+has-requires : tie.Need-has-requires
+has-requires c κs = search needs
+
+has-requires-2 : tie.Need-has-requires-2
+has-requires-2 c κs = search needs
+
+returns : tie.Need-returns
+returns c =
+    let a = c .before .before .before .before .args in
+    let both = ap (λ w. bit w (a .k)) (c .before .before .before .intersection .ensures) ∙ bit-intersection (a .after) (a .before) (a .k) in
+    rw (sym both ∙ sym (c .before .before .has .ensures) ∙ c .before .if1 .taken) (c .has2 .ensures)
+
+returns-2 : tie.Need-returns-2
+returns-2 c =
+    let a = c .before .before .before .args in
+    let both = ap (λ w. bit w (a .k)) (c .before .before .intersection .ensures) ∙ bit-intersection (a .after) (a .before) (a .k) in
+    rw (sym both ∙ sym (c .before .has .ensures) ∙ c .if1 .left) (c .if1 .left)
+
+pub excludes-spec : {M : Type 1} → statement M
+excludes-spec =
+    tie.close (tie.spec intersection-requires has-requires has-requires-2 returns returns-2)

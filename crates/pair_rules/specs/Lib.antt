@@ -1,0 +1,2 @@
+-- What a search says at one pair of jobs.
+pub mod PairSearched

@@ -1,0 +1,17 @@
+-- `transposition::lower` meets its contract, by the law of the two words. Assumes nothing.
+use borrow.Author.Needs.{needs}
+use Rattle.transposition.specs.Transpose.{bit-lower}
+use Rattle.transposition.proofs.lower.Statement.{statement}
+use Rattle.transposition.proofs.lower.Tie as tie
+
+shr-result : tie.Need-shr-result
+shr-result c = search needs
+
+shl-result : tie.Need-shl-result
+shl-result c = search needs
+
+returns : tie.Need-returns
+returns c = bit-lower _ _ _ _ (c .pre)
+
+pub lower-spec : {M : Type 1} → statement M
+lower-spec = tie.close (tie.spec shr-result shl-result returns)

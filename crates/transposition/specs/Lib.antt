@@ -1,0 +1,2 @@
+-- What it means that a matrix of bits is transposed.
+pub mod Transpose
