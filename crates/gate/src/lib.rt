@@ -1,21 +1,15 @@
-// "Refusals by the gate": the checks 1 to 7 of the table in their order, as far as each call has them, and the planner's 9.
-use board::Board;
+// "Refusals by the gate": the lines of the table, the checks of a job and of a pair, and the planner's 9.
 use board::Refusal;
 use board::range::between;
-use board::range::is_length;
-use board::range::is_time;
-use entries::Entry;
 ghost use mathlib.Core.Path.{_≡_};
 ghost use mathlib.Core.Bool.{_&&_};
 ghost use mathlib.Core.List.{List, [], _∷_};
 ghost use lib.IntN.{pos};
 ghost use lib.Signed.{_≤ℤ_};
 ghost use Rattle.minutes.specs.Linear.{eqZ};
-ghost use Rattle.board.specs.Paper.Tests as tests;
 ghost use Rattle.entries.specs.Paper.Entry as entry;
 ghost use Rattle.entries.specs.Paper.Gate as paper;
-ghost use Rattle.entries.specs.Paper.Values.{entryOf};
-ghost use Rattle.entries.specs.Paper.Gate.{Check, isJob, jobCheck, pairChecks, timeCheck, windowCheck, checks, budgetCheck, gate};
+ghost use Rattle.entries.specs.Paper.Gate.{Check, isJob, jobCheck, pairChecks, budgetCheck, gate};
 ghost use Rattle.gate.specs.Values.{refusalOf};
 
 // What the checks say of a call: no refusal, or the first that it meets.
@@ -25,7 +19,7 @@ pub enum Gate {
 }
 
 // A line of the table, and what the lines after it say.
-fn line(refusal: Refusal, met: bool, rest: Gate) -> Gate
+pub fn line(refusal: Refusal, met: bool, rest: Gate) -> Gate
     ensures { λ r. ⌜ ((cs : List Check) → refusalOf rest ≡ gate cs → refusalOf r ≡ gate (paper.line refusal met ∷ cs)) ⌝ }
 {
     if met { Gate::Closed(refusal) } else { rest }
@@ -56,7 +50,7 @@ pub fn budget_value(budget: i32) -> u32
 }
 
 // "numbered from 0"
-fn is_job(jobs: usize, number: i32) -> bool
+pub fn is_job(jobs: usize, number: i32) -> bool
     ensures { λ r. ⌜ r ≡ isJob jobs number ⌝ }
 {
     0 <= number && index(number) < jobs
@@ -66,12 +60,6 @@ fn are_jobs(jobs: usize, a: i32, b: i32) -> bool
     ensures { λ r. ⌜ r ≡ isJob jobs a && isJob jobs b ⌝ }
 {
     is_job(jobs, a) && is_job(jobs, b)
-}
-
-fn are_times(earliest: i32, latest: i32) -> bool
-    ensures { λ r. ⌜ r ≡ tests.isTime earliest && tests.isTime latest ⌝ }
-{
-    is_time(earliest) && is_time(latest)
 }
 
 fn is_same(a: i32, b: i32) -> bool
@@ -96,77 +84,6 @@ pub fn pair_gate(jobs: usize, a: i32, b: i32) -> Gate
         !are_jobs(jobs, a, b),
         line(Refusal::Same, is_same(a, b), Gate::Open),
     )
-}
-
-// 5 time, 6 window, and what the lines after them say
-fn window_lines(earliest: i32, latest: i32, rest: Gate) -> Gate
-    ensures { λ r. ⌜ ((cs : List Check) → refusalOf rest ≡ gate cs → refusalOf r ≡ gate (timeCheck earliest latest ∷ windowCheck earliest latest ∷ cs)) ⌝ }
-{
-    line(
-        Refusal::Time,
-        !are_times(earliest, latest),
-        line(Refusal::Window, latest < earliest, rest),
-    )
-}
-
-// 2 job, 7 mark
-fn mark_gate(jobs: usize, job: i32, mark: i32) -> Gate
-    ensures { λ r. ⌜ refusalOf r ≡ gate (checks jobs (entry.other (entry.mark job mark))) ⌝ }
-{
-    let taken = between(Board::VALID as i32, Board::INVALID as i32, mark);
-    line(
-        Refusal::Job,
-        !is_job(jobs, job),
-        line(Refusal::Mark, !taken, Gate::Open),
-    )
-}
-
-// 2 job, 5 time, 6 window
-fn cut_gate(jobs: usize, job: i32, earliest: i32, latest: i32) -> Gate
-    ensures { λ r. ⌜ refusalOf r ≡ gate (checks jobs (entry.other (entry.cut job earliest latest))) ⌝ }
-{
-    line(
-        Refusal::Job,
-        !is_job(jobs, job),
-        window_lines(earliest, latest, Gate::Open),
-    )
-}
-
-// 1 full, 4 length, 5 time, 6 window, 7 mark
-fn addition_gate(jobs: usize, length: i32, earliest: i32, latest: i32, mark: i32) -> Gate
-    ensures { λ r. ⌜ refusalOf r ≡ gate (checks jobs (entry.addition length earliest latest mark)) ⌝ }
-{
-    let taken = between(Board::UNDECIDED as i32, Board::VALID as i32, mark);
-    line(
-        Refusal::Full,
-        Board::JOBS <= jobs,
-        line(
-            Refusal::Length,
-            !is_length(length),
-            window_lines(earliest, latest, line(Refusal::Mark, !taken, Gate::Open)),
-        ),
-    )
-}
-
-// The checks 1 to 7, as far as the entry's sort has them.
-pub fn entry_gate(jobs: usize, entry: Entry) -> Gate
-    ensures { λ r. ⌜ refusalOf r ≡ gate (checks jobs (entryOf entry)) ⌝ }
-{
-    match entry {
-        Entry::Addition {
-            length,
-            earliest,
-            latest,
-            mark,
-        } => addition_gate(jobs, length, earliest, latest, mark),
-        Entry::Arc { from, to } => pair_gate(jobs, from, to),
-        Entry::Mark { job, mark } => mark_gate(jobs, job, mark),
-        Entry::Cut {
-            job,
-            earliest,
-            latest,
-        } => cut_gate(jobs, job, earliest, latest),
-    }
 }
 
 // "a budget, 0 to 1000000"

@@ -1,10 +1,10 @@
--- `gate::entry_gate` meets its contract, by that of the gate for each sort. Assumes nothing.
+-- `entry_gate::entry_gate` meets its contract, by that of the gate for each sort. Assumes nothing.
 use borrow.Author.Needs.{needs}
 use mir.Syntax.{w32}
 use mir.Val.{SFits}
 use mir.ValLaws.{toZ-ofZ}
-use Rattle.gate.proofs.entry_gate.Statement.{statement}
-use Rattle.gate.proofs.entry_gate.Tie as tie
+use Rattle.entry_gate.proofs.entry_gate.Statement.{statement}
+use Rattle.entry_gate.proofs.entry_gate.Tie as tie
 
 returns : tie.Need-returns
 returns c =

@@ -1,8 +1,8 @@
--- `gate::window_lines` meets its contract, line by line. Assumes nothing.
+-- `entry_gate::window_lines` meets its contract, line by line. Assumes nothing.
 use borrow.Author.Needs.{needs}
 use mir.ValLaws.{toZ-ofZ}
-use Rattle.gate.proofs.window_lines.Statement.{statement}
-use Rattle.gate.proofs.window_lines.Tie as tie
+use Rattle.entry_gate.proofs.window_lines.Statement.{statement}
+use Rattle.entry_gate.proofs.window_lines.Tie as tie
 
 are-times-requires : tie.Need-are-times-requires
 are-times-requires c κs = search needs

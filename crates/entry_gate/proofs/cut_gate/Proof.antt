@@ -1,10 +1,10 @@
--- `gate::cut_gate` meets its contract, line by line. Assumes nothing.
+-- `entry_gate::cut_gate` meets its contract, line by line. Assumes nothing.
 use mathlib.Core.List.{[]}
 use borrow.Author.Needs.{needs}
 use mir.ValLaws.{toZ-ofZ}
 use Rattle.entries.specs.Lines.{no-line}
-use Rattle.gate.proofs.cut_gate.Statement.{statement}
-use Rattle.gate.proofs.cut_gate.Tie as tie
+use Rattle.entry_gate.proofs.cut_gate.Statement.{statement}
+use Rattle.entry_gate.proofs.cut_gate.Tie as tie
 
 is-job-requires : tie.Need-is-job-requires
 is-job-requires c κs = search needs

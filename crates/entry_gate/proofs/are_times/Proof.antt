@@ -1,9 +1,9 @@
--- `gate::are_times` meets its contract: the second test is asked where the first holds. Assumes nothing.
+-- `entry_gate::are_times` meets its contract: the second test is asked where the first holds. Assumes nothing.
 use mathlib.Core.Path.{sym, _∙_}
 use borrow.Author.Needs.{needs}
 use mir.ValLaws.{toZ-ofZ}
-use Rattle.gate.proofs.are_times.Statement.{statement}
-use Rattle.gate.proofs.are_times.Tie as tie
+use Rattle.entry_gate.proofs.are_times.Statement.{statement}
+use Rattle.entry_gate.proofs.are_times.Tie as tie
 
 is-time-requires : tie.Need-is-time-requires
 is-time-requires c κs = search needs

@@ -1,10 +1,10 @@
--- `gate::mark_gate` meets its contract, line by line. Assumes nothing.
+-- `entry_gate::mark_gate` meets its contract, line by line. Assumes nothing.
 use mathlib.Core.List.{[]}
 use borrow.Author.Needs.{needs}
 use mir.ValLaws.{toZ-ofZ}
 use Rattle.entries.specs.Lines.{no-line}
-use Rattle.gate.proofs.mark_gate.Statement.{statement}
-use Rattle.gate.proofs.mark_gate.Tie as tie
+use Rattle.entry_gate.proofs.mark_gate.Statement.{statement}
+use Rattle.entry_gate.proofs.mark_gate.Tie as tie
 
 cast-between : tie.Need-cast-between
 cast-between c = search needs
