@@ -1,8 +1,12 @@
 -- The laws of the calls on a board by reference: one for those that alter it, one for those that look at it.
 pub mod Altered
 pub mod Asked
+pub mod Boards
 pub mod ByReference
 pub mod Called
+pub mod Carried
+pub mod Cells
 pub mod Handed
+pub mod InPlace
 pub mod Looked
-pub mod Numbers
+pub mod Plain

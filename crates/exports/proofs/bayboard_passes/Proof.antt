@@ -1,14 +1,11 @@
 -- `bayboard_passes` meets its contract, by the law of a board that is looked at where it is kept. Assumes nothing.
-use mathlib.Core.Path.{_≡_, refl}
+use mathlib.Core.Path.{_≡_}
+use mathlib.Core.List.{[]}
 use mathlib.Core.Option.{none}
-use mir.Syntax.{tyBool}
-use mir.Val.{vbool}
-use denote.Builtin.{bool}
-use denote.Lowered.{Lowered}
-use denote.Plain.{bool-tells, bool-lawful}
 use Rattle.closure.specs.Check as check
 use Rattle.host.proofs.Called.{holds}
 use Rattle.host.proofs.Looked.{law}
+use Rattle.host.proofs.Plain.{truth}
 use Rattle.exports.proofs.by_value.passes.Met.{met}
 use Rattle.exports.proofs.by_value.passes.Symbol as by-value
 use Rattle.exports.proofs.bayboard_passes as passes
@@ -16,13 +13,9 @@ use Rattle.exports.proofs.bayboard_passes.Code as code
 use Rattle.exports.proofs.bayboard_passes.Key.{name}
 use Rattle.exports.proofs.bayboard_passes.Statement.{statement}
 
--- a bool's type in MIR and its machine value
-abbrev lowers : Lowered bool
-lowers = record { mir = tyBool; lowered = vbool; layout-is = refl; val-is = bool-tells }
-
 pub bayboard-passes-spec : {M : Type 1} → statement M
 unfolding code.routine
 bayboard-passes-spec 𝓤 H 𝓜 𝓖 𝓡 =
-    law 0 bool lowers none (λ b z r. r ≡ check.passes b) 𝓤 H 𝓜 𝓖 𝓡 (λ W. bool-lawful 𝓤 H (𝓖 .A) W)
+    law [] truth none (λ b z r. r ≡ check.passes b) 𝓤 H 𝓜 𝓖 𝓡
     (λ κs a. passes.clauses 𝓤 H (𝓖 .A) (𝓜 .mem) (𝓡 .run) κs a .ensures) (λ κs a r e. holds 𝓤 e)
     code.env name by-value.name by-value.routine (code.unfolded 𝓤 H 𝓜 𝓡) code.calls-exports·by-value·passes (met 𝓤 H 𝓜 𝓖 𝓡)

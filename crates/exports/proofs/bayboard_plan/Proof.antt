@@ -1,10 +1,11 @@
 -- `bayboard_plan` meets its contract, by the law of a board that is looked at where it is kept. Assumes nothing.
 use mathlib.Core.Path.{_≡_}
 use mathlib.Core.Option.{none}
-use denote.Struct.Laws.{lawful}
 use Rattle.tries.specs.Paper.Planner as planning
 use Rattle.host.proofs.Called.{holds}
+use Rattle.host.proofs.Carried.{numbers}
 use Rattle.host.proofs.Looked.{law}
+use Rattle.host.proofs.Plain.{struct}
 use Rattle.exports.specs.Replies.{planReply}
 use Rattle.exports.proofs.replies.PlanReply as T
 use Rattle.exports.proofs.replies.PlanReply.Laws as T′
@@ -18,7 +19,6 @@ use Rattle.exports.proofs.bayboard_plan.Statement.{statement}
 pub bayboard-plan-spec : {M : Type 1} → statement M
 unfolding code.routine
 bayboard-plan-spec 𝓤 H 𝓜 𝓖 𝓡 =
-    law 1 T.the-row T′.lowers none (λ b z r. r ≡ planReply (planning.plan b (z .0))) 𝓤 H 𝓜 𝓖 𝓡
-    (λ W. lawful T.the-type T′.the-laws 𝓤 H (𝓖 .A) W)
+    law (numbers 1) (struct T.the-type T′.the-laws T′.the-plain T′.the-copy) none (λ b z r. r ≡ planReply (planning.plan b (z .0))) 𝓤 H 𝓜 𝓖 𝓡
     (λ κs a. plan.clauses 𝓤 H (𝓖 .A) (𝓜 .mem) (𝓡 .run) κs a .ensures) (λ κs a r e. holds 𝓤 e)
     code.env name by-value.name by-value.routine (code.unfolded 𝓤 H 𝓜 𝓡) code.calls-exports·by-value·plan (met 𝓤 H 𝓜 𝓖 𝓡)

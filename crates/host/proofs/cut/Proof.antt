@@ -6,6 +6,7 @@ use Rattle.entries.specs.Paper.Enter.{enter}
 use Rattle.dock.proofs.Dock.cut.Met.{met}
 use Rattle.dock.proofs.Dock.cut.Symbol as by-value
 use Rattle.host.proofs.Called.{holds}
+use Rattle.host.proofs.Carried.{numbers}
 use Rattle.host.proofs.Altered.{law}
 use Rattle.host.proofs.Handed.{entered}
 use Rattle.host.proofs.cut as cut
@@ -16,6 +17,6 @@ use Rattle.host.proofs.cut.Statement.{statement}
 pub cut-spec : {M : Type 1} → statement M
 unfolding code.routine
 cut-spec 𝓤 H 𝓜 𝓖 𝓡 =
-    law 3 entered none (λ b z r. r ≡ enter b (entry.other (entry.cut (z .0) (z .1 .0) (z .1 .1 .0)))) 𝓤 H 𝓜 𝓖 𝓡
+    law (numbers 3) entered none (λ b z r. r ≡ enter b (entry.other (entry.cut (z .0) (z .1 .0) (z .1 .1 .0)))) 𝓤 H 𝓜 𝓖 𝓡
     (λ κs a. cut.clauses 𝓤 H (𝓖 .A) (𝓜 .mem) (𝓡 .run) κs a .ensures) (λ κs a r e. holds 𝓤 e)
     code.env name by-value.name by-value.routine (code.unfolded 𝓤 H 𝓜 𝓡) code.calls-dock·Dock·cut (met 𝓤 H 𝓜 𝓖 𝓡)

@@ -1,14 +1,15 @@
 -- `host::pair` meets its contract, by the law of a board that is looked at where it is kept. Assumes nothing.
 use mathlib.Core.Path.{_≡_}
 use mathlib.Core.Option.{none}
-use denote.Enum.Laws.{lawful}
 use Rattle.entries.specs.Paper.Looking as looking
 use Rattle.entries.proofs.PairAnswer as T
 use Rattle.entries.proofs.PairAnswer.Laws as T′
 use Rattle.dock.proofs.Dock.pair.Met.{met}
 use Rattle.dock.proofs.Dock.pair.Symbol as by-value
 use Rattle.host.proofs.Called.{holds}
+use Rattle.host.proofs.Carried.{numbers}
 use Rattle.host.proofs.Looked.{law}
+use Rattle.host.proofs.Plain.{enum}
 use Rattle.host.proofs.pair as pair
 use Rattle.host.proofs.pair.Code as code
 use Rattle.host.proofs.pair.Key.{name}
@@ -17,7 +18,6 @@ use Rattle.host.proofs.pair.Statement.{statement}
 pub pair-spec : {M : Type 1} → statement M
 unfolding code.routine
 pair-spec 𝓤 H 𝓜 𝓖 𝓡 =
-    law 2 T.the-row T′.lowers none (λ b z r. r ≡ looking.pair b (z .0) (z .1 .0)) 𝓤 H 𝓜 𝓖 𝓡
-    (λ W. lawful T.the-type T′.the-laws 𝓤 H (𝓖 .A) W tt)
+    law (numbers 2) (enum T.the-type T′.the-laws tt T′.the-plain T′.the-copy) none (λ b z r. r ≡ looking.pair b (z .0) (z .1 .0)) 𝓤 H 𝓜 𝓖 𝓡
     (λ κs a. pair.clauses 𝓤 H (𝓖 .A) (𝓜 .mem) (𝓡 .run) κs a .ensures) (λ κs a r e. holds 𝓤 e)
     code.env name by-value.name by-value.routine (code.unfolded 𝓤 H 𝓜 𝓡) code.calls-dock·Dock·pair (met 𝓤 H 𝓜 𝓖 𝓡)

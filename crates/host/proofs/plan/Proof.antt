@@ -1,14 +1,15 @@
 -- `host::plan` meets its contract, by the law of a board that is looked at where it is kept. Assumes nothing.
 use mathlib.Core.Path.{_≡_}
 use mathlib.Core.Option.{none}
-use denote.Struct.Laws.{lawful}
 use Rattle.tries.specs.Paper.Planner as planning
 use Rattle.tries.proofs.Planned as T
 use Rattle.tries.proofs.Planned.Laws as T′
 use Rattle.dock.proofs.Dock.plan.Met.{met}
 use Rattle.dock.proofs.Dock.plan.Symbol as by-value
 use Rattle.host.proofs.Called.{holds}
+use Rattle.host.proofs.Carried.{numbers}
 use Rattle.host.proofs.Looked.{law}
+use Rattle.host.proofs.Plain.{struct}
 use Rattle.host.proofs.plan as plan
 use Rattle.host.proofs.plan.Code as code
 use Rattle.host.proofs.plan.Key.{name}
@@ -17,7 +18,6 @@ use Rattle.host.proofs.plan.Statement.{statement}
 pub plan-spec : {M : Type 1} → statement M
 unfolding code.routine
 plan-spec 𝓤 H 𝓜 𝓖 𝓡 =
-    law 1 T.the-row T′.lowers none (λ b z r. r ≡ planning.plan b (z .0)) 𝓤 H 𝓜 𝓖 𝓡
-    (λ W. lawful T.the-type T′.the-laws 𝓤 H (𝓖 .A) W)
+    law (numbers 1) (struct T.the-type T′.the-laws T′.the-plain T′.the-copy) none (λ b z r. r ≡ planning.plan b (z .0)) 𝓤 H 𝓜 𝓖 𝓡
     (λ κs a. plan.clauses 𝓤 H (𝓖 .A) (𝓜 .mem) (𝓡 .run) κs a .ensures) (λ κs a r e. holds 𝓤 e)
     code.env name by-value.name by-value.routine (code.unfolded 𝓤 H 𝓜 𝓡) code.calls-dock·Dock·plan (met 𝓤 H 𝓜 𝓖 𝓡)

@@ -1,10 +1,11 @@
 -- `bayboard_unchecked_pair` meets its contract, by the law of a board that is looked at where it is kept. Assumes nothing.
 use mathlib.Core.Path.{_≡_}
 use mathlib.Core.Option.{some}
-use denote.Struct.Laws.{lawful}
 use Rattle.entries.specs.Paper.Looking as looking
 use Rattle.host.proofs.Called.{holds}
+use Rattle.host.proofs.Carried.{numbers}
 use Rattle.host.proofs.Looked.{law}
+use Rattle.host.proofs.Plain.{struct}
 use Rattle.exports.specs.Replies.{pairReply}
 use Rattle.exports.proofs.Passing.{Passing}
 use Rattle.exports.proofs.replies.PairReply as T
@@ -19,7 +20,6 @@ use Rattle.exports.proofs.unchecked.bayboard_unchecked_pair.Statement.{
 pub bayboard-unchecked-pair-spec : {M : Type 1} → statement M
 unfolding code.routine
 bayboard-unchecked-pair-spec 𝓤 H 𝓜 𝓖 𝓡 =
-    law 2 T.the-row T′.lowers (some Passing) (λ b z r. r ≡ pairReply (looking.pair b (z .0) (z .1 .0))) 𝓤 H 𝓜 𝓖 𝓡
-    (λ W. lawful T.the-type T′.the-laws 𝓤 H (𝓖 .A) W)
+    law (numbers 2) (struct T.the-type T′.the-laws T′.the-plain T′.the-copy) (some Passing) (λ b z r. r ≡ pairReply (looking.pair b (z .0) (z .1 .0))) 𝓤 H 𝓜 𝓖 𝓡
     (λ κs a. pair.clauses 𝓤 H (𝓖 .A) (𝓜 .mem) (𝓡 .run) κs a .ensures) (λ κs a r e. holds 𝓤 e)
     code.env name by-value.name by-value.routine (code.unfolded 𝓤 H 𝓜 𝓡) code.calls-exports·unchecked·by-value·pair (met 𝓤 H 𝓜 𝓖 𝓡)

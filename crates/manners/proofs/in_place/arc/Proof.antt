@@ -2,6 +2,7 @@
 use mathlib.Core.Path.{_≡_}
 use Rattle.entries.specs.Paper.Entry as entry
 use Rattle.entries.specs.Paper.Enter.{enter}
+use Rattle.host.proofs.Carried.{numbers}
 use Rattle.host.proofs.arc.Met.{met}
 use Rattle.host.proofs.arc.Symbol as in-place
 use Rattle.manners.proofs.Kept.{law}
@@ -12,5 +13,5 @@ use Rattle.manners.proofs.in_place.arc.Statement.{statement}
 pub arc-spec : {M : Type 1} → statement M
 unfolding code.routine
 arc-spec 𝓤 H 𝓜 𝓖 𝓡 =
-    law 2 (λ b z r. r ≡ enter b (entry.other (entry.arc (z .0) (z .1 .0)))) 𝓤 H 𝓜 𝓖 𝓡
+    law (numbers 2) (λ b z r. r ≡ enter b (entry.other (entry.arc (z .0) (z .1 .0)))) 𝓤 H 𝓜 𝓖 𝓡
     code.env name in-place.name in-place.routine (code.unfolded 𝓤 H 𝓜 𝓡) code.calls-host·arc (met 𝓤 H 𝓜 𝓖 𝓡)

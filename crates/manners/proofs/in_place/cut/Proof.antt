@@ -2,6 +2,7 @@
 use mathlib.Core.Path.{_≡_}
 use Rattle.entries.specs.Paper.Entry as entry
 use Rattle.entries.specs.Paper.Enter.{enter}
+use Rattle.host.proofs.Carried.{numbers}
 use Rattle.host.proofs.cut.Met.{met}
 use Rattle.host.proofs.cut.Symbol as in-place
 use Rattle.manners.proofs.Kept.{law}
@@ -12,5 +13,5 @@ use Rattle.manners.proofs.in_place.cut.Statement.{statement}
 pub cut-spec : {M : Type 1} → statement M
 unfolding code.routine
 cut-spec 𝓤 H 𝓜 𝓖 𝓡 =
-    law 3 (λ b z r. r ≡ enter b (entry.other (entry.cut (z .0) (z .1 .0) (z .1 .1 .0)))) 𝓤 H 𝓜 𝓖 𝓡
+    law (numbers 3) (λ b z r. r ≡ enter b (entry.other (entry.cut (z .0) (z .1 .0) (z .1 .1 .0)))) 𝓤 H 𝓜 𝓖 𝓡
     code.env name in-place.name in-place.routine (code.unfolded 𝓤 H 𝓜 𝓡) code.calls-host·cut (met 𝓤 H 𝓜 𝓖 𝓡)
