@@ -10,31 +10,35 @@ use mir.Val.{Val}
 use base.Logic.{SProp, ent, emp, id⊢}
 use prog.Wp.{Heap, Env, Calls, Loops}
 use ghost.Atoms.{Atoms}
-use contract.Lifetimes.{Lfts, toks}
-use types.Kit.{Given, Item, raw, Post, Seq, runs, lands, _$_, move, drop, use0, fjoin}
+use contract.Lifetimes.{Lfts}
+use types.Kit.{Given, Item, raw, Post, Seq, runs, lands, _$_, drop}
 use types.Run.{Opds}
 use sound.WpLaws.{FmC}
 use denote.Ref.{now}
 use denote.Laws.{Is}
-use denote.Steps.{owned, nothing}
 use denote.Triple.Entry.{Args}
 use denote.Triple.Statement.{Contract, Triple}
+use Rattle.board.specs.declared.Board.{Board}
 use Rattle.entries.specs.declared.Answer.{Answer}
 use Rattle.entries.specs.declared.Entered.{Entered}
 use Rattle.entries.specs.Paper.Entry.{Entry}
 use Rattle.entries.specs.Paper.Enter.{enter}
 use Rattle.host.proofs.ByReference.{altering, Says, Said}
-use Rattle.host.proofs.Called.{ByValue, arguments, calls}
+use Rattle.host.proofs.Called.{ByValue, arguments, calls, alone}
 use Rattle.host.proofs.Carried.{by-reference, Carried, value, Values, values}
 use Rattle.host.proofs.Handed.{answer}
 use Rattle.host.proofs.Plain.{Plain, struct}
 use Rattle.exports.specs.declared.replies.Reply.{Reply}
-use Rattle.exports.specs.Replies.{entryReply}
+use Rattle.exports.specs.Replies.{Replied, entryReply}
 use Rattle.exports.proofs.replies.Reply as R
 use Rattle.exports.proofs.replies.Reply.Laws as R′
 
 abbrev pub reply : Plain
 reply = struct R.the-type R′.the-laws R′.the-plain R′.the-copy
+
+-- a reply and a board, as one
+abbrev pub both : Reply → Board → Replied
+both r d = record { reply = r; board = d }
 
 -- What a call says follows, where the answer and the board are those of the entry that the arguments state.
 module _ {m : ℕ} (cs : List (Carried m)) (stated : Values cs → Entry) {M : Type 1} (𝓤 : URA M) (S : Says cs (reply .Row) 𝓤) where
@@ -67,8 +71,6 @@ module _ {M : Type 1} (𝓤 : URA M) (H : Heap 𝓤) (A : Atoms 𝓤) where
         → Opds K W (raw asked ∷ Γ) E xs (answer .val a ∷ [])
         → ((v : Val) → Is (reply .Row) (entryReply a) (v ∷ []) → Seq K W Γ (lands C Λ E d v rest q))
         → Seq K W Γ (runs C Λ E (seq (call callee xs d) rest) q)
-    replies {W = W} t fm known is os k =
-        use0 W (raw (toks 𝓤 A 0 tt tt)) (id⊢ 𝓤 (emp 𝓤)) $ nothing t $
-        owned t (answer .Row) (Is (answer .Row)) (answer .makes 𝓤 H A W) a (answer .val a ∷ []) is $ fjoin t $
-        calls taking (reply .Row) 𝓤 asks ensures H A tt tt (a, tt) t fm known (id⊢ 𝓤 (emp 𝓤)) os
+    replies t fm known is os k =
+        alone t answer a is $ calls taking (reply .Row) 𝓤 asks ensures H A tt tt (a, tt) t fm known (id⊢ 𝓤 (emp 𝓤)) os
         (λ r v e made. drop t $ drop t $ k v (subst (λ (x : Reply). Is (reply .Row) x (v ∷ [])) e made))

@@ -7,16 +7,28 @@ use crate::replies::RowReply;
 use crate::replies::entry_reply;
 use board::Board;
 use dock::Dock;
+use entries::Entry;
 ghost use mathlib.Core.Path.{_≡_};
 ghost use mathlib.Core.Bool.{true};
 ghost use Rattle.closure.specs.Check.{passes};
 ghost use Rattle.entries.specs.Paper.Entry as entry;
 ghost use Rattle.entries.specs.Paper.Enter as paper;
 ghost use Rattle.entries.specs.Paper.Looking as looking;
+ghost use Rattle.entries.specs.Paper.Values.{entryOf};
 ghost use Rattle.tries.specs.Paper.Planner as planning;
 ghost use Rattle.exports.specs.Replies.{replied, rowReply, pairReply, planReply};
 
 mod by_value;
+
+// An entry of any sort.
+fn enter(board: &mut Board, entry: Entry) -> Reply
+    requires { ⌜ passes (now board) ≡ true ⌝ }
+    ensures { λ r. ⌜ record { reply = r; board = now (board .exit) } ≡ replied (paper.enter (now (board .entry)) (entryOf entry)) ⌝ }
+{
+    let entered = calls::enter(*board, entry);
+    *board = entered.board;
+    entry_reply(entered.answer)
+}
 
 // "Addition: length, E, D, mark 0 or 1; gives the job's number."
 #[no_mangle]
@@ -30,9 +42,7 @@ pub extern "C" fn bayboard_unchecked_addition(
     requires { ⌜ passes (now board) ≡ true ⌝ }
     ensures { λ r. ⌜ record { reply = r; board = now (board .exit) } ≡ replied (paper.enter (now (board .entry)) (entry.addition length earliest latest mark)) ⌝ }
 {
-    let entered = calls::addition(*board, length, earliest, latest, mark);
-    *board = entered.board;
-    entry_reply(entered.answer)
+    enter(board, Entry::addition(length, earliest, latest, mark))
 }
 
 // "Arc A to B: if both take place, A ends no later than B starts."
@@ -41,9 +51,7 @@ pub extern "C" fn bayboard_unchecked_arc(board: &mut Board, from: i32, to: i32) 
     requires { ⌜ passes (now board) ≡ true ⌝ }
     ensures { λ r. ⌜ record { reply = r; board = now (board .exit) } ≡ replied (paper.enter (now (board .entry)) (entry.other (entry.arc from to))) ⌝ }
 {
-    let entered = calls::arc(*board, from, to);
-    *board = entered.board;
-    entry_reply(entered.answer)
+    enter(board, Entry::arc(from, to))
 }
 
 // "Mark a job 1 or 2."
@@ -52,9 +60,7 @@ pub extern "C" fn bayboard_unchecked_mark(board: &mut Board, job: i32, mark: i32
     requires { ⌜ passes (now board) ≡ true ⌝ }
     ensures { λ r. ⌜ record { reply = r; board = now (board .exit) } ≡ replied (paper.enter (now (board .entry)) (entry.other (entry.mark job mark))) ⌝ }
 {
-    let entered = calls::mark(*board, job, mark);
-    *board = entered.board;
-    entry_reply(entered.answer)
+    enter(board, Entry::mark(job, mark))
 }
 
 // "Cut a job with a window E, D: the later E and the earlier D hold."
@@ -68,9 +74,7 @@ pub extern "C" fn bayboard_unchecked_cut(
     requires { ⌜ passes (now board) ≡ true ⌝ }
     ensures { λ r. ⌜ record { reply = r; board = now (board .exit) } ≡ replied (paper.enter (now (board .entry)) (entry.other (entry.cut job earliest latest))) ⌝ }
 {
-    let entered = calls::cut(*board, job, earliest, latest);
-    *board = entered.board;
-    entry_reply(entered.answer)
+    enter(board, Entry::cut(job, earliest, latest))
 }
 
 // "Row of a job: mark, E, D, the set before it and the set after it."

@@ -13,14 +13,14 @@ use prog.Wp.{Heap, Env, Calls, Loops}
 use ghost.Atoms.{Atoms, sem}
 use contract.Lifetimes.{Lfts, Shares, toks}
 use contract.Monad.{fact, factI}
-use types.Kit.{Given, Item, ‵, raw, _⊛_, some, later, ⋆, Post, prop, Seq, Step, step, runs, lands}
-use types.Kit.{_$_, _∵_, !, qed, move, use1, use2, split, pick, fjoin, await, done}
+use types.Kit.{Given, Item, ‵, raw, _⊛_, some, later, ⋆, Post, Goal, prop, Seq, Step, step, runs, lands}
+use types.Kit.{_$_, _∵_, !, qed, move, use0, use1, use2, split, pick, fjoin, await, done}
 use types.Run.{Opds}
 use sound.WpLaws.{FmC}
 use denote.RattleType.{RattleType, flat, owns}
 use denote.Laws.{Is, shows}
 use denote.Signature.{plain}
-use denote.Steps.{owned, peeks, heard}
+use denote.Steps.{owned, peeks, heard, nothing}
 use denote.Triple.Call.{calls-at}
 use denote.Triple.Clauses.{Ended, Clauses, closing, ensured, lasts}
 use denote.Triple.Spec.{tripleOf}
@@ -31,6 +31,7 @@ use Rattle.host.proofs.Asked.{Asks, Holds}
 use Rattle.host.proofs.Boards.{dock, holding, dock-val, IsBoard, is-dock}
 use Rattle.host.proofs.Carried.{by-value, Carried, value, Values, owned-by, slots, kept, rows, values, taken, passed}
 use Rattle.host.proofs.Carried.{values-taken, takes-all}
+use Rattle.host.proofs.Plain.{Plain}
 
 -- a fact is a clause that holds of itself, and such a clause is said at the end of a walk
 pub holds : {M : Type 1} (𝓤 : URA M) {φ : Type 0} → φ → ent 𝓤 (emp 𝓤) (fact 𝓤 φ)
@@ -107,6 +108,14 @@ module _ {m : ℕ} (cs : List (Carried m)) (R : RattleType) where
             await t tt $ pick t (λ r. split t $ move t (1 ∷ []) $ use1 W (raw (fact 𝓤 (Ensured r))) (said r) $
             heard t (Ensured r) (λ e. split t $ move t (1 ∷ 0 ∷ []) $ peeks t R (Is R) (shows 𝓤 H A R) r (v ∷ []) (λ made.
             k r v (subst (λ (ys : Values cs). Q ys r) same e) made))))
+
+-- a plain value is an argument that is had for nothing
+pub alone : {M : Type 1} {𝓤 : URA M} {H : Heap 𝓤} {A : Atoms 𝓤} {K : Type 0} {W : Given 𝓤 H A} {Γ : List (Item 𝓤)} {G : Goal 𝓤 H}
+    → K → (X : Plain) (x : X .Row .Denot) → Is (X .Row) x (X .val x ∷ [])
+    → Step K W (‵ (owned-by {m = 0} tt (value X ∷ []) (x, tt)) ∷ raw (toks 𝓤 A 0 tt tt) ∷ Γ) G Γ G
+alone {𝓤 = 𝓤} {H = H} {A = A} {W = W} t X x is =
+    step (λ s. use0 W (raw (toks 𝓤 A 0 tt tt)) (id⊢ 𝓤 (emp 𝓤)) $ nothing t $
+    owned t (X .Row) (Is (X .Row)) (X .makes 𝓤 H A W) x (X .val x ∷ []) is $ fjoin t $ s)
 
 -- a call of a dock, which may ask a fact of its board
 module _ {m : ℕ} (cs : List (Carried m)) (R : RattleType) (asks : Asks) (Q : Board → Values cs → R .Denot → Type 0) {M : Type 1}

@@ -20,6 +20,8 @@ use Rattle.entries.proofs.Answer as A′
 use Rattle.entries.proofs.Answer.Laws as A″
 use Rattle.entries.proofs.Entered as E
 use Rattle.entries.proofs.Entered.Laws as E′
+use Rattle.entries.proofs.Entry as N
+use Rattle.entries.proofs.Entry.Laws as N′
 use Rattle.host.proofs.Boards.{board-val, IsBoard}
 use Rattle.host.proofs.Plain.{Plain, enum}
 
@@ -41,7 +43,10 @@ pub record Handed : Type 2 where
 abbrev pub both-mir : Handed → Ty
 both-mir G = tyStruct (G .name) (tcons (G .Reply .mir) (tcons B′.mir tnil))
 
--- the answer of an entry call, an answer and a board as one, and what such a call hands back
+-- an entry; the answer of an entry call, an answer and a board as one, and what such a call hands back
+abbrev pub entry : Plain
+entry = enum N.the-type N′.the-laws tt N′.the-plain N′.the-copy
+
 abbrev pub answer : Plain
 answer = enum A′.the-type A″.the-laws tt A″.the-plain A″.the-copy
 

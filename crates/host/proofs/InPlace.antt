@@ -35,7 +35,7 @@ use Rattle.host.proofs.Asked.{Asks, Holds, clause, said}
 use Rattle.host.proofs.ByReference.{altering, pointer, reference}
 use Rattle.host.proofs.Called.{states}
 use Rattle.host.proofs.Carried.{by-reference, Carried, Values, owned-by, rows, values, taken, passed, values-taken, takes-all}
-use Rattle.host.proofs.Plain.{Plain}
+use Rattle.host.proofs.Plain.{Plain, its-value}
 
 module _ {m : ℕ} (cs : List (Carried m)) (R : Plain) (asks : Asks) (Q : Board → Values cs → R .Row .Denot → Board → Type 0)
     {M : Type 1} (𝓤 : URA M) where
@@ -103,7 +103,7 @@ module _ {m : ℕ} (cs : List (Carried m)) (R : Plain) (asks : Asks) (Q : Board 
             facts t (R .Row) (Is (R .Row)) (shows 𝓤 H A (R .Row)) r (v ∷ []) (λ made. move t (1 ∷ []) $ drop t $
             regoal t (λ (u : Val). lands C Λ E p u rest Pq) (ap only (R .tells r _ made)) refl $
             k r (ws .0) (subst (λ (ys : Values cs). Q h ys r (ws .0)) (values-taken by-reference lfts cs zs) e)
-            (subst (Is (R .Row) r) (R .tells r _ made) made))))))
+            (its-value R r _ made))))))
 
       -- a reference for κ under the name γ, lent again; the operands are read with two entries in front of the context
       pub relends : {K : Type 0} {W : Given 𝓤 H A} {Γ : List (Item 𝓤)} {C : Calls 𝓤 H} {Λ : Loops 𝓤 H} {E : Env 𝓤 H}

@@ -9,4 +9,5 @@ pub mod Cells
 pub mod Handed
 pub mod InPlace
 pub mod Looked
+pub mod Named
 pub mod Plain

@@ -3,6 +3,7 @@
 use board::Board;
 use dock::Dock;
 use entries::Answer;
+use entries::Entry;
 use entries::PairAnswer;
 use entries::RowAnswer;
 use tries::Planned;
@@ -10,46 +11,45 @@ ghost use mathlib.Core.Path.{_≡_};
 ghost use Rattle.entries.specs.Paper.Entry as entry;
 ghost use Rattle.entries.specs.Paper.Enter as paper;
 ghost use Rattle.entries.specs.Paper.Looking as looking;
+ghost use Rattle.entries.specs.Paper.Values.{entryOf};
 ghost use Rattle.tries.specs.Paper.Planner as planning;
+
+// An entry of any sort.
+pub fn enter(board: &mut Board, entry: Entry) -> Answer
+    ensures { λ r. ⌜ record { answer = r; board = now (board .exit) } ≡ paper.enter (now (board .entry)) (entryOf entry) ⌝ }
+{
+    let dock = Dock { board: *board };
+    let entered = dock.enter(entry);
+    *board = entered.board;
+    entered.answer
+}
 
 // "Addition: length, E, D, mark 0 or 1; gives the job's number."
 pub fn addition(board: &mut Board, length: i32, earliest: i32, latest: i32, mark: i32) -> Answer
     ensures { λ r. ⌜ record { answer = r; board = now (board .exit) } ≡ paper.enter (now (board .entry)) (entry.addition length earliest latest mark) ⌝ }
 {
-    let dock = Dock { board: *board };
-    let entered = dock.addition(length, earliest, latest, mark);
-    *board = entered.board;
-    entered.answer
+    enter(board, Entry::addition(length, earliest, latest, mark))
 }
 
 // "Arc A to B: if both take place, A ends no later than B starts."
 pub fn arc(board: &mut Board, from: i32, to: i32) -> Answer
     ensures { λ r. ⌜ record { answer = r; board = now (board .exit) } ≡ paper.enter (now (board .entry)) (entry.other (entry.arc from to)) ⌝ }
 {
-    let dock = Dock { board: *board };
-    let entered = dock.arc(from, to);
-    *board = entered.board;
-    entered.answer
+    enter(board, Entry::arc(from, to))
 }
 
 // "Mark a job 1 or 2."
 pub fn mark(board: &mut Board, job: i32, mark: i32) -> Answer
     ensures { λ r. ⌜ record { answer = r; board = now (board .exit) } ≡ paper.enter (now (board .entry)) (entry.other (entry.mark job mark)) ⌝ }
 {
-    let dock = Dock { board: *board };
-    let entered = dock.mark(job, mark);
-    *board = entered.board;
-    entered.answer
+    enter(board, Entry::mark(job, mark))
 }
 
 // "Cut a job with a window E, D: the later E and the earlier D hold."
 pub fn cut(board: &mut Board, job: i32, earliest: i32, latest: i32) -> Answer
     ensures { λ r. ⌜ record { answer = r; board = now (board .exit) } ≡ paper.enter (now (board .entry)) (entry.other (entry.cut job earliest latest)) ⌝ }
 {
-    let dock = Dock { board: *board };
-    let entered = dock.cut(job, earliest, latest);
-    *board = entered.board;
-    entered.answer
+    enter(board, Entry::cut(job, earliest, latest))
 }
 
 // "Row of a job: mark, E, D, the set before it and the set after it."

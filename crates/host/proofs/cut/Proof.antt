@@ -1,14 +1,18 @@
--- `host::cut` meets its contract, by the law of a board that is altered where it is kept. Assumes nothing.
-use mathlib.Core.Path.{_≡_}
+-- `host::cut` meets its contract, by the law of a named call: it makes its entry for `host::enter`. Assumes nothing.
+use mathlib.Core.Path.{_≡_, _∙_, ap}
 use mathlib.Core.Option.{none}
-use Rattle.entries.specs.Paper.Entry as entry
+use denote.Ref.{now}
+use Rattle.entries.specs.Paper.Entry as paper
 use Rattle.entries.specs.Paper.Enter.{enter}
-use Rattle.dock.proofs.Dock.cut.Met.{met}
-use Rattle.dock.proofs.Dock.cut.Symbol as by-value
+use Rattle.entries.specs.Paper.Values.{entryOf}
+use Rattle.entries.proofs.Entry.cut.Met as made
+use Rattle.entries.proofs.Entry.cut.Symbol as making
 use Rattle.host.proofs.Called.{holds}
 use Rattle.host.proofs.Carried.{numbers}
-use Rattle.host.proofs.Altered.{law}
-use Rattle.host.proofs.Handed.{entered}
+use Rattle.host.proofs.Handed.{entry, answer, both}
+use Rattle.host.proofs.Named.{law}
+use Rattle.host.proofs.enter.Met as entered
+use Rattle.host.proofs.enter.Symbol as entering
 use Rattle.host.proofs.cut as cut
 use Rattle.host.proofs.cut.Code as code
 use Rattle.host.proofs.cut.Key.{name}
@@ -17,6 +21,7 @@ use Rattle.host.proofs.cut.Statement.{statement}
 pub cut-spec : {M : Type 1} → statement M
 unfolding code.routine
 cut-spec 𝓤 H 𝓜 𝓖 𝓡 =
-    law (numbers 3) entered none (λ b z r. r ≡ enter b (entry.other (entry.cut (z .0) (z .1 .0) (z .1 .1 .0)))) 𝓤 H 𝓜 𝓖 𝓡
-    (λ κs a. cut.clauses 𝓤 H (𝓖 .A) (𝓜 .mem) (𝓡 .run) κs a .ensures) (λ κs a r e. holds 𝓤 e)
-    code.env name by-value.name by-value.routine (code.unfolded 𝓤 H 𝓜 𝓡) code.calls-dock·Dock·cut (met 𝓤 H 𝓜 𝓖 𝓡)
+    law (numbers 3) entry answer none (λ z e. entryOf e ≡ paper.other (paper.cut (z .0) (z .1 .0) (z .1 .1 .0))) (λ b e r d. both r d ≡ enter b (entryOf e)) 𝓤 H 𝓜 𝓖 𝓡
+    (λ κs a. cut.clauses 𝓤 H (𝓖 .A) (𝓜 .mem) (𝓡 .run) κs a .ensures) (λ κs a x r d is e. holds 𝓤 (e ∙ ap (enter (now (a .0))) is))
+    code.env name making.name entering.name making.routine entering.routine (code.unfolded 𝓤 H 𝓜 𝓡)
+    code.calls-entries·Entry·cut (made.met 𝓤 H 𝓜 𝓖 𝓡) code.calls-host·enter (entered.met 𝓤 H 𝓜 𝓖 𝓡)

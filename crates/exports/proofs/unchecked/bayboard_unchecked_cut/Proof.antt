@@ -1,12 +1,22 @@
--- `bayboard_unchecked_cut` meets its contract, by the law of a board that is stored where it is kept. Assumes nothing.
-use mathlib.Core.Path.{ap}
-use Rattle.entries.specs.Paper.Entry as entry
-use Rattle.calls.proofs.cut.Met.{met}
-use Rattle.calls.proofs.cut.Symbol as by-value
+-- `bayboard_unchecked_cut` meets its contract, by the law of a named call: it makes its entry for `unchecked::enter`. Assumes
+-- nothing.
+use mathlib.Core.Path.{_≡_, _∙_, ap}
+use mathlib.Core.Option.{some}
+use denote.Ref.{now}
+use Rattle.entries.specs.Paper.Entry as paper
+use Rattle.entries.specs.Paper.Enter.{enter}
+use Rattle.entries.specs.Paper.Values.{entryOf}
+use Rattle.entries.proofs.Entry.cut.Met as made
+use Rattle.entries.proofs.Entry.cut.Symbol as making
 use Rattle.host.proofs.Called.{holds}
 use Rattle.host.proofs.Carried.{numbers}
+use Rattle.host.proofs.Handed.{entry}
+use Rattle.host.proofs.Named.{law}
 use Rattle.exports.specs.Replies.{replied}
-use Rattle.exports.proofs.Stored.{law}
+use Rattle.exports.proofs.Passing.{Passing}
+use Rattle.exports.proofs.Replied.{reply, both}
+use Rattle.exports.proofs.unchecked.enter.Met as entered
+use Rattle.exports.proofs.unchecked.enter.Symbol as entering
 use Rattle.exports.proofs.unchecked.bayboard_unchecked_cut as cut
 use Rattle.exports.proofs.unchecked.bayboard_unchecked_cut.Code as code
 use Rattle.exports.proofs.unchecked.bayboard_unchecked_cut.Key.{name}
@@ -15,7 +25,9 @@ use Rattle.exports.proofs.unchecked.bayboard_unchecked_cut.Statement.{s
 pub bayboard-unchecked-cut-spec : {M : Type 1} → statement M
 unfolding code.routine
 bayboard-unchecked-cut-spec 𝓤 H 𝓜 𝓖 𝓡 =
-    law (numbers 3) (λ z. entry.other (entry.cut (z .0) (z .1 .0) (z .1 .1 .0))) 𝓤 H 𝓜 𝓖 𝓡
-    (λ κs a. cut.clauses 𝓤 H (𝓖 .A) (𝓜 .mem) (𝓡 .run) κs a .ensures) (λ κs a e p. holds 𝓤 (ap replied p))
-    code.env name by-value.name by-value.routine (code.unfolded 𝓤 H 𝓜 𝓡) code.calls-calls·cut
-    code.calls-exports·replies·entry-reply (met 𝓤 H 𝓜 𝓖 𝓡)
+    law (numbers 3) entry reply (some Passing) (λ z e. entryOf e ≡ paper.other (paper.cut (z .0) (z .1 .0) (z .1 .1 .0)))
+    (λ b e r d. both r d ≡ replied (enter b (entryOf e))) 𝓤 H 𝓜 𝓖 𝓡
+    (λ κs a. cut.clauses 𝓤 H (𝓖 .A) (𝓜 .mem) (𝓡 .run) κs a .ensures)
+    (λ κs a x r d is e. holds 𝓤 (e ∙ ap (λ (s : paper.Entry). replied (enter (now (a .0)) s)) is))
+    code.env name making.name entering.name making.routine entering.routine (code.unfolded 𝓤 H 𝓜 𝓡)
+    code.calls-entries·Entry·cut (made.met 𝓤 H 𝓜 𝓖 𝓡) code.calls-exports·unchecked·enter (entered.met 𝓤 H 𝓜 𝓖 𝓡)
