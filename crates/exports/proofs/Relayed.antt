@@ -26,8 +26,9 @@ use Rattle.board.proofs.Board.Laws as B′
 use Rattle.entries.specs.declared.Answer.{Answer}
 use Rattle.entries.specs.Paper.Entry.{Entry}
 use Rattle.entries.specs.Paper.Enter as paper
+use Rattle.host.proofs.Arguments.{Values, values}
 use Rattle.host.proofs.ByReference.{pointer, Says, Alters, exits, Walk, by-walk}
-use Rattle.host.proofs.Carried.{by-reference, Carried, Values, values}
+use Rattle.host.proofs.Carried.{by-reference, Carried}
 use Rattle.host.proofs.Cells.{locals, count, past, copies, other, alloc-all, pass-all, free-all, look-all}
 use Rattle.host.proofs.Handed.{answer, both}
 use Rattle.host.proofs.InPlace as in-place

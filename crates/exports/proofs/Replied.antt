@@ -23,9 +23,10 @@ use Rattle.entries.specs.declared.Answer.{Answer}
 use Rattle.entries.specs.declared.Entered.{Entered}
 use Rattle.entries.specs.Paper.Entry.{Entry}
 use Rattle.entries.specs.Paper.Enter.{enter}
+use Rattle.host.proofs.Arguments.{Values, values}
 use Rattle.host.proofs.ByReference.{altering, Says, Said}
 use Rattle.host.proofs.Called.{ByValue, arguments, calls, alone}
-use Rattle.host.proofs.Carried.{by-reference, Carried, value, Values, values}
+use Rattle.host.proofs.Carried.{by-reference, Carried, value}
 use Rattle.host.proofs.Handed.{answer}
 use Rattle.host.proofs.Plain.{Plain, struct}
 use Rattle.exports.specs.declared.replies.Reply.{Reply}

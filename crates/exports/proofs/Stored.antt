@@ -36,10 +36,11 @@ use Rattle.entries.specs.Paper.Entry.{Entry}
 use Rattle.entries.specs.Paper.Enter as paper
 use Rattle.entries.proofs.Entered as E
 use Rattle.entries.proofs.Entered.Laws as E′
+use Rattle.host.proofs.Arguments.{Values, values}
 use Rattle.host.proofs.Boards.{board, board-val, board-typed, spelled}
 use Rattle.host.proofs.ByReference.{pointer, Says, Alters, exits, Walk, by-walk}
 use Rattle.host.proofs.Called.{holds, ByValue, calls}
-use Rattle.host.proofs.Carried.{by-value, by-reference, Carried, value, Values, values}
+use Rattle.host.proofs.Carried.{by-value, by-reference, Carried, value}
 use Rattle.host.proofs.Cells.{locals, count, past, copies, other, alloc-all, pass-all, free-all, look-all}
 use Rattle.host.proofs.Handed.{entered}
 use Rattle.exports.specs.Replies.{entryReply}

@@ -35,11 +35,12 @@ use Rattle.board.specs.declared.Board.{Board}
 use Rattle.board.proofs.Board as B
 use Rattle.board.proofs.Board.Laws as B′
 use Rattle.dock.proofs.Dock.Laws as D′
+use Rattle.host.proofs.Arguments.{Values, values}
 use Rattle.host.proofs.Asked.{Asks}
 use Rattle.host.proofs.Boards.{board, board-val, board-typed, dock-typed, spelled}
 use Rattle.host.proofs.ByReference.{altering, pointer, Says, Said, Alters, exits, Walk, by-walk}
 use Rattle.host.proofs.Called.{OfDock, dock-calls}
-use Rattle.host.proofs.Carried.{by-value, by-reference, Carried, Values, values}
+use Rattle.host.proofs.Carried.{by-value, by-reference, Carried}
 use Rattle.host.proofs.Cells.{locals, count, past, copies, other, alloc-all, pass-all, free-all, look-all}
 use Rattle.host.proofs.Handed.{Handed, both-mir}
 

@@ -33,10 +33,11 @@ use denote.Triple.Table.{entered}
 use denote.Triple.Walked.{Stays, stay-ref, walkOf, goes-ref, ends-at, walked, walk-meets}
 use Rattle.board.specs.declared.Board.{Board}
 use Rattle.board.proofs.Board as B
+use Rattle.host.proofs.Arguments.{owned-by, slots, kept, dropped, gone, rows, values, spells, told, given, Fit, unsaid}
+use Rattle.host.proofs.Arguments.{unasked, Had, had, gives-all}
 use Rattle.host.proofs.Asked.{Asks, Holds, clause, learned}
 use Rattle.host.proofs.Called.{states}
-use Rattle.host.proofs.Carried.{by-reference, Carried, Values, owned-by, slots, kept, dropped, gone, rows, values, spells, told}
-use Rattle.host.proofs.Carried.{given, Fit, unsaid, unasked, Had, had, gives-all}
+use Rattle.host.proofs.Carried.{by-reference, Carried}
 
 -- a reference to the board at (b, o), and what it owns
 abbrev pub pointer : ℕ → ℕ → GName → Board → RefT Board

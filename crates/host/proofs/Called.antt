@@ -26,11 +26,11 @@ use denote.Triple.Clauses.{Ended, Clauses, closing, ensured, lasts}
 use denote.Triple.Spec.{tripleOf}
 use denote.Triple.Statement.{Contract, Triple}
 use Rattle.board.specs.declared.Board.{Board}
+use Rattle.host.proofs.Arguments.{Values, owned-by, slots, kept, rows, values, taken, passed, values-taken, takes-all}
 use Rattle.host.proofs.Asked as asked
 use Rattle.host.proofs.Asked.{Asks, Holds}
 use Rattle.host.proofs.Boards.{dock, holding, dock-val, IsBoard, is-dock}
-use Rattle.host.proofs.Carried.{by-value, Carried, value, Values, owned-by, slots, kept, rows, values, taken, passed}
-use Rattle.host.proofs.Carried.{values-taken, takes-all}
+use Rattle.host.proofs.Carried.{by-value, Carried, value}
 use Rattle.host.proofs.Plain.{Plain}
 
 -- a fact is a clause that holds of itself, and such a clause is said at the end of a walk

@@ -1,4 +1,4 @@
--- The arguments of `Carried` in a walk of the code: how it allocates their locals, stores them, reads them as a callee's
+-- The arguments in a walk of the code: how it allocates their locals, stores them, reads them as a callee's
 -- arguments and frees them, as one entry of its context.
 -- Assumes nothing.
 use mathlib.Core.Path.{_≡_, refl, sym, subst}
@@ -18,7 +18,8 @@ use types.Kit.{Given, Item, ‵, raw, _⊛_, mean, ⋆, nth, del, pull, unpull, 
 use types.Kit.{_$_, _∵_, !, qed, move, drop, use0, use1, use3, split3, group, done}
 use types.Run.{Walks, Finds, Opds, look, init, forget, stop, from, load, no-more, and-then, alloc1, pass1, pass0, free1}
 use denote.RattleType.{Denots, flat}
-use Rattle.host.proofs.Carried.{Mode, lifetimes, Carried, Values, rows, values, given, Fit, passed}
+use Rattle.host.proofs.Arguments.{Values, rows, values, given, Fit, passed}
+use Rattle.host.proofs.Carried.{Mode, lifetimes, Carried}
 
 -- In the code: their locals before others, how many they are, the k-th local after the result, the board and them, and the
 -- operands that pass them on, from local k on.
@@ -92,8 +93,8 @@ module _ {M : Type 1} {𝓤 : URA M} {H : Heap 𝓤} {A : Atoms 𝓤} {K : Type 
 
 module _ {m : ℕ} {M : Type 1} {𝓤 : URA M} {H : Heap 𝓤} {A : Atoms 𝓤} {K : Type 0} {W : Given 𝓤 H A} where
   -- a place in the k-th local after them
-  pub other : {Γ : List (Item 𝓤)} → K → (p : Mode) (cs : List (Carried m)) (bs : Blocks cs) {e₀ e₁ : Ty × ℕ} (E : Env 𝓤 H) (k : ℕ) {st : List PStep}
-      {sp : Spot 𝓤 H}
+  pub other : {Γ : List (Item 𝓤)} → K → (p : Mode) (cs : List (Carried m)) (bs : Blocks cs) {e₀ e₁ : Ty × ℕ} (E : Env 𝓤 H) (k : ℕ)
+      {st : List PStep} {sp : Spot 𝓤 H}
       → Walks K W Γ (e₀ ∷ e₁ ∷ among H p cs bs E) (getD E k (noLocal 𝓤 H) .0, getD E k (noLocal 𝓤 H) .1, zero) st sp
       → Finds K W Γ (e₀ ∷ e₁ ∷ among H p cs bs E) (place (past cs k) st) sp
   other t p cs bs {e₀} {e₁} E k = found t (after H p cs bs e₀ e₁ E k)

@@ -31,10 +31,11 @@ use denote.Triple.Spec.{tripleOf}
 use denote.Triple.Statement.{Contract, Triple}
 use Rattle.board.specs.declared.Board.{Board}
 use Rattle.board.proofs.Board as B
+use Rattle.host.proofs.Arguments.{Values, owned-by, rows, values, taken, passed, values-taken, takes-all}
 use Rattle.host.proofs.Asked.{Asks, Holds, clause, said}
 use Rattle.host.proofs.ByReference.{altering, pointer, reference}
 use Rattle.host.proofs.Called.{states}
-use Rattle.host.proofs.Carried.{by-reference, Carried, Values, owned-by, rows, values, taken, passed, values-taken, takes-all}
+use Rattle.host.proofs.Carried.{by-reference, Carried}
 use Rattle.host.proofs.Plain.{Plain, its-value}
 
 module _ {m : ℕ} (cs : List (Carried m)) (R : Plain) (asks : Asks) (Q : Board → Values cs → R .Row .Denot → Board → Type 0)

@@ -1,5 +1,7 @@
--- The laws of the calls on a board by reference: one for those that alter it, one for those that look at it.
+-- The laws of the calls on a board by reference: one for those that alter it, one for those that make an entry for such a call,
+-- one for those that look at it.
 pub mod Altered
+pub mod Arguments
 pub mod Asked
 pub mod Boards
 pub mod ByReference

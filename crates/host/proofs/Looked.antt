@@ -44,11 +44,12 @@ use Rattle.board.specs.declared.Board.{Board}
 use Rattle.board.proofs.Board as B
 use Rattle.board.proofs.Board.Laws as B′
 use Rattle.dock.proofs.Dock.Laws as D′
+use Rattle.host.proofs.Arguments.{Values, owned-by, slots, kept, dropped, gone, rows, values, spells, told, given, Fit}
+use Rattle.host.proofs.Arguments.{unsaid, unasked, Had, had, gives-all}
 use Rattle.host.proofs.Asked.{Asks, Holds, clause, learned}
 use Rattle.host.proofs.Boards.{board-val, board-typed, dock-typed, spelled}
 use Rattle.host.proofs.Called.{states, OfDock, dock-calls}
-use Rattle.host.proofs.Carried.{by-value, by-reference, Carried, Values, owned-by, slots, kept, dropped, gone, rows, values}
-use Rattle.host.proofs.Carried.{spells, told, given, Fit, unsaid, unasked, Had, had, gives-all}
+use Rattle.host.proofs.Carried.{by-value, by-reference, Carried}
 use Rattle.host.proofs.Cells.{locals, count, past, copies, other, alloc-all, pass-all, free-all, look-all}
 use Rattle.host.proofs.Plain.{Plain}
 

@@ -32,10 +32,11 @@ use denote.Triple.Table.{cited}
 use Rattle.board.specs.declared.Board.{Board}
 use Rattle.board.proofs.Board as B
 use Rattle.board.proofs.Board.Laws as B′
+use Rattle.host.proofs.Arguments.{Values, values}
 use Rattle.host.proofs.Asked.{Asks}
 use Rattle.host.proofs.ByReference.{altering, pointer, Says, Said, Alters, exits, Walk, by-walk}
 use Rattle.host.proofs.Called.{ByValue, calls, alone}
-use Rattle.host.proofs.Carried.{by-value, by-reference, Carried, value, Values, values}
+use Rattle.host.proofs.Carried.{by-value, by-reference, Carried, value}
 use Rattle.host.proofs.Cells.{locals, count, past, copies, other, alloc-all, pass-all, free-all, look-all}
 use Rattle.host.proofs.InPlace.{InPlace, relends}
 use Rattle.host.proofs.Plain.{Plain, its-value}

@@ -18,7 +18,7 @@ use ghost.Atoms.{Atoms}
 use contract.Lifetimes.{Lfts, Shares, toks}
 use contract.Monad.{Fun, fact}
 use contract.Running.{GhostRules, Running, givenOf, tables, tablesOf}
-use types.Kit.{Given, Item, ‵, raw, ⋆, _$_, _∵_, !, qed, by, move, keep, drop, use0, use1, fsplit, fjoin, suffices, frame, done}
+use types.Kit.{Given, Item, ‵, raw, ⋆, _$_, _∵_, !, qed, by, move, drop, use0, use1, fsplit, fjoin, suffices, frame, done}
 use types.Run.{look, init, forget, stop, from, load, addr, of-opd, no-more, and-then, assigns, land, returns}
 use types.Run.{enter, alloc1, alloc0, params1, pass1, free1, free0}
 use types.Part.{agg}
@@ -43,10 +43,11 @@ use Rattle.entries.specs.declared.Answer.{Answer}
 use Rattle.entries.specs.declared.Entered.{Entered}
 use Rattle.entries.proofs.Entered as E
 use Rattle.entries.proofs.Entered.Laws as E′
+use Rattle.host.proofs.Arguments.{Values, owned-by, slots, kept, dropped, gone, rows, values, spells, told, given, Fit, unsaid}
+use Rattle.host.proofs.Arguments.{unasked, Had, had, gives-all}
 use Rattle.host.proofs.Boards.{board-val, IsBoard, board-typed}
 use Rattle.host.proofs.Called.{holds, states}
-use Rattle.host.proofs.Carried.{by-value, by-reference, Carried, Values, owned-by, slots, kept, dropped, gone, rows, values}
-use Rattle.host.proofs.Carried.{spells, told, given, Fit, unsaid, unasked, Had, had, gives-all}
+use Rattle.host.proofs.Carried.{by-value, by-reference, Carried}
 use Rattle.host.proofs.Cells.{locals, count, past, copies, other, alloc-all, pass-all, free-all, look-all}
 use Rattle.host.proofs.Handed.{answer, both}
 use Rattle.host.proofs.InPlace as in-place
