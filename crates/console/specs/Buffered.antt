@@ -7,7 +7,7 @@ use lib.ListN.{length, take}
 use Rattle.numerals.specs.Rest.{rest, rest-drop}
 use Rattle.board.specs.declared.Board.{Board}
 use Rattle.text.specs.declared.Piece.{Piece}
-use Rattle.text.specs.Paper.Lines.{linesOf}
+use Rattle.forms.specs.Paper.Lines.{linesOf}
 use Rattle.text.specs.Paper.Text.{serve, answer}
 use Rattle.text.specs.Serving.{Answers}
 use Rattle.text.specs.Pieces.{Pieces, first, further, Whole, pieces-whole}

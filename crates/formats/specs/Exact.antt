@@ -40,12 +40,12 @@ pub record Fills (f t : List ℕ) (zs : List ℤ) : Type 0 where
   pub short : AllShort zs
   pub each : length zs ≡ marks numberMark f
 
-record Scannable (c : ℕ) (f : List ℕ) : Type 0 where
-  signed : eqb c naturalMark ≡ false
-  ends : cond (eqb c numberMark) (endsNumber f) true ≡ true
-  rest : scannable f ≡ true
+pub record Scannable (c : ℕ) (f : List ℕ) : Type 0 where
+  pub signed : eqb c naturalMark ≡ false
+  pub ends : cond (eqb c numberMark) (endsNumber f) true ≡ true
+  pub rest : scannable f ≡ true
 
-scannable-parts : (c : ℕ) (f : List ℕ) → scannable (c ∷ f) ≡ true → Scannable c f
+pub scannable-parts : (c : ℕ) (f : List ℕ) → scannable (c ∷ f) ≡ true → Scannable c f
 scannable-parts c f e =
     let (first, rest) = and-eq-true-iff (not (eqb c naturalMark) && cond (eqb c numberMark) (endsNumber f) true) (scannable f) .0 e in
     let (signed, ends) = and-eq-true-iff (not (eqb c naturalMark)) (cond (eqb c numberMark) (endsNumber f) true) .0 first in
@@ -58,19 +58,20 @@ ends-digits (c ∷ f) zs s e =
     let (digit, mark) = and-eq-true-iff (not (isDigit c)) (not (eqb c numberMark)) .0 e in
     rw (scannable-parts c f s .signed, not-true (eqb c numberMark) mark) (not-true (isDigit c) digit)
 
-mark-scanned : (c : ℕ) (f : List ℕ) (z : ℤ) (zs : List ℤ) → Scannable c f → eqb c numberMark ≡ true → Short z → scan f (filled f [] zs) ≡ some zs
-    → scan (c ∷ f) (filled (c ∷ f) [] (z ∷ zs)) ≡ some (z ∷ zs)
-mark-scanned c f z zs s m short e =
-    let t = filled f [] zs in
-    let read = number-read z t short (ends-digits f zs (s .rest) (rw m at (s .ends))) in
-    rw (filled-number c f (z ∷ zs) (s .signed) m)
-    (scan-number (c ∷ f) (number z ++ t) (length (number z)) z (omega arith) (eqb-true c numberMark m) read ∙ rw (drop-append-seam (number z) t, e))
+-- a text that is a format filled in, read by any format with the same first mark, or by one that has no mark there either
+module _ (c : ℕ) (f : List ℕ) (s : Scannable c f) (g : List ℕ) where
+  pub mark-scanned : eqb c numberMark ≡ true → (z : ℤ) (zs : List ℤ) → Short z
+      → scan (c ∷ g) (filled (c ∷ f) [] (z ∷ zs)) ≡ with-first z (scan g (filled f [] zs))
+  mark-scanned m z zs short =
+      let t = filled f [] zs in
+      let read = number-read z t short (ends-digits f zs (s .rest) (rw m at (s .ends))) in
+      rw (filled-number c f (z ∷ zs) (s .signed) m)
+      (scan-number (c ∷ g) (number z ++ t) (length (number z)) z (omega arith) (eqb-true c numberMark m) read ∙ rw (drop-append-seam (number z) t))
 
-byte-scanned : (c : ℕ) (f : List ℕ) (zs : List ℤ) → Scannable c f → eqb c numberMark ≡ false → scan f (filled f [] zs) ≡ some zs
-    → scan (c ∷ f) (filled (c ∷ f) [] zs) ≡ some zs
-byte-scanned c f zs s m e =
-    rw (filled-byte c f zs (s .signed) m)
-    (scan-byte (c ∷ f) (c ∷ filled f [] zs) (omega arith) (eqb-false c numberMark m) ∙ rw (eq-eqb c c refl, e))
+  pub byte-scanned : eqb c numberMark ≡ false → (d : ℕ) → eqb d numberMark ≡ false → (zs : List ℤ)
+      → scan (d ∷ g) (filled (c ∷ f) [] zs) ≡ cond (eqb c d) (scan g (filled f [] zs)) none
+  byte-scanned m d n zs =
+      rw (filled-byte c f zs (s .signed) m) (scan-byte (d ∷ g) (c ∷ filled f [] zs) (omega arith) (eqb-false d numberMark n))
 
 -- a text that is the format filled in is read
 pub filled-is-scanned : (f : List ℕ) (zs : List ℤ) → scannable f ≡ true → AllShort zs → length zs ≡ marks numberMark f → scan f (filled f [] zs) ≡ some zs
@@ -85,8 +86,8 @@ filled-is-scanned (c ∷ f) zs s short each =
         → (b : Bool) → eqb c numberMark ≡ b → (ys : List ℤ) → AllShort ys → length ys ≡ cond b 1 0 + marks numberMark f
         → scan (c ∷ f) (filled (c ∷ f) [] ys) ≡ some ys
     go parts rest true m [] short each = absurd (omega arith)
-    go parts rest true m (y ∷ ys) short each = mark-scanned c f y ys parts m (short .0) (rest ys (short .1) (omega arith))
-    go parts rest false m ys short each = byte-scanned c f ys parts m (rest ys short (omega arith))
+    go parts rest true m (y ∷ ys) short each = mark-scanned c f parts f m y ys (short .0) ∙ rw (rest ys (short .1) (omega arith))
+    go parts rest false m ys short each = byte-scanned c f parts f m c m ys ∙ rw (eq-eqb c c refl, rest ys short (omega arith))
 
 mark-filled : (c : ℕ) (f t : List ℕ) (k : ℕ) (z : ℤ) (zs : List ℤ) → Scannable c f → eqb c numberMark ≡ true → numberAt t ≡ Number k z
     → ((ys : List ℤ) → scan f (drop k t) ≡ some ys → Fills f (drop k t) ys)

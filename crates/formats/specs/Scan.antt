@@ -1,5 +1,5 @@
--- What the code answers of a scan: whether the text is the format filled in, and the numbers in four places.
-use Prim.Native.Nat.{ℕ, _<_}
+-- What the code answers of a scan: whether the text is the format filled in, and the numbers in as many places as a format may have.
+use Prim.Native.Nat.{ℕ, zero, suc, _<_}
 use lib.Dec.{eqb}
 use lib.IntN.{ℤ, pos}
 use lib.ListN.{length, getD}
@@ -10,13 +10,19 @@ use mathlib.Core.Path.{_≡_, refl}
 use native.Mathlib.Omega.{arith}
 use Rattle.formats.specs.declared.scan.Scanned.{Scanned}
 
+-- the most numbers that a format has
+abbrev pub places : ℕ
+places = 8
+
+-- numbers in n places, 0 in those beyond them
+abbrev pub placed : ℕ → List ℤ → List ℤ
+placed zero zs = []
+placed (suc n) [] = pos 0 ∷ placed n []
+placed (suc n) (z ∷ zs) = z ∷ placed n zs
+
 abbrev pub scanned : Option (List ℤ) → Scanned
-scanned none = record { matched = false; numbers = pos 0 ∷ pos 0 ∷ pos 0 ∷ pos 0 ∷ [] }
-scanned (some zs) =
-    record {
-      matched = true;
-      numbers = getD zs 0 (pos 0) ∷ getD zs 1 (pos 0) ∷ getD zs 2 (pos 0) ∷ getD zs 3 (pos 0) ∷ [];
-    }
+scanned none = record { matched = false; numbers = placed places [] }
+scanned (some zs) = record { matched = true; numbers = placed places zs }
 
 abbrev pub startsWith : ℕ → List ℕ → Bool
 startsWith c [] = false

@@ -3,10 +3,10 @@ use Prim.Native.Nat.{ℕ, _<_}
 use lib.Dec.{eqb}
 use lib.IntN.{ℤ, pos}
 use lib.ListN.{length, getD, drop}
-use mathlib.Core.Bool.{true, false, cond}
+use mathlib.Core.Bool.{Bool, true, false, cond}
 use mathlib.Core.List.{List, [], _∷_, _++_}
 use mathlib.Core.Option.{none}
-use mathlib.Core.Path.{_≡_}
+use mathlib.Core.Path.{_≡_, refl}
 use native.Mathlib.Omega.{arith}
 use borrow.Author.Tests.{eq-eqb, ne-eqb}
 use Rattle.numerals.specs.Decimal.{number}
@@ -30,6 +30,14 @@ unfolding scan
 scan-byte [] t more m = absurd (omega arith)
 scan-byte (c ∷ f) [] more m = rw (ne-eqb c numberMark m)
 scan-byte (c ∷ f) (x ∷ t) more m = rw (ne-eqb c numberMark m)
+
+pub scan-nothing : (c : ℕ) (f : List ℕ) → scan (c ∷ f) [] ≡ none
+unfolding scan numberAt
+scan-nothing c f = go (eqb c numberMark) refl
+  where
+    go : (b : Bool) → eqb c numberMark ≡ b → scan (c ∷ f) [] ≡ none
+    go true m = rw m
+    go false m = rw m
 
 pub filled-number : (c : ℕ) (f : List ℕ) (zs : List ℤ) → eqb c naturalMark ≡ false → eqb c numberMark ≡ true
     → filled (c ∷ f) [] zs ≡ number (getD zs 0 (pos 0)) ++ filled f [] (drop 1 zs)

@@ -6,12 +6,15 @@ ghost use mathlib.Core.Path.{_≡_};
 ghost use Prim.Native.Nat.{_≤_};
 ghost use Rattle.formats.specs.Format as formats;
 ghost use Rattle.formats.specs.Format.{marks, numberMark};
-ghost use Rattle.formats.specs.Scan.{scanned, startsWith, scannedWhole};
+ghost use Rattle.formats.specs.Scan.{places, scanned, startsWith, scannedWhole};
+
+// The most numbers that a format has.
+pub const PLACES: usize = 8;
 
 // The numbers at the marks of a format, in turn, and 0 beyond them; none where the text is not the format filled in.
 pub struct Scanned {
     pub matched: bool,
-    pub numbers: [i32; 4],
+    pub numbers: [i32; PLACES],
 }
 
 const NUMBER_MARK: u8 = b'#';
@@ -21,7 +24,7 @@ fn unmatched() -> Scanned
 {
     Scanned {
         matched: false,
-        numbers: [0; 4],
+        numbers: [0; PLACES],
     }
 }
 
@@ -35,7 +38,7 @@ fn starts_with(text: &[u8], byte: u8) -> bool
 }
 
 // The numbers found, where the text is used up.
-fn whole(text: &[u8], numbers: [i32; 4]) -> Scanned
+fn whole(text: &[u8], numbers: [i32; PLACES]) -> Scanned
     ensures { λ r. ⌜ r ≡ scannedWhole (now (text .entry)) numbers ⌝ }
 {
     if 0 < text.len() {
@@ -48,12 +51,12 @@ fn whole(text: &[u8], numbers: [i32; 4]) -> Scanned
 }
 
 pub fn scan(format: &[u8], text: &[u8]) -> Scanned
-    requires { ⌜ marks numberMark (now format) ≤ 4 ⌝ }
+    requires { ⌜ marks numberMark (now format) ≤ places ⌝ }
     ensures { λ r. ⌜ r ≡ scanned (formats.scan (now (format .entry)) (now (text .entry))) ⌝ }
 {
     let mut f = format;
     let mut t = text;
-    let mut numbers = [0; 4];
+    let mut numbers = [0; PLACES];
     let mut count = 0;
     while 0 < f.len() {
         if f[0] == NUMBER_MARK {

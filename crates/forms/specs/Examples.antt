@@ -4,10 +4,11 @@ use mathlib.Core.Path.{_≡_, refl}
 use Rattle.numerals.specs.Bytes.{bytes}
 use Rattle.numerals.specs.Numerals.{naturalAt, numberAt}
 use Rattle.formats.specs.Format.{scan}
-use Rattle.forms.specs.declared.Form.the-variants.{Addition, Pair, Plan, Unknown}
+use Rattle.entries.specs.declared.Entry.the-variants.{Addition}
+use Rattle.forms.specs.declared.Form.the-variants.{Entry, Pair, Plan, Unknown}
 use Rattle.forms.specs.Paper.Forms.{firstOf, formOf}
 
-pub four-numbers : formOf (bytes "(add (len 30) (win 0 100) (mark 1))") ≡ Addition (pos 30) (pos 0) (pos 100) (pos 1)
+pub four-numbers : formOf (bytes "(add (len 30) (win 0 100) (mark 1))") ≡ Entry (Addition (pos 30) (pos 0) (pos 100) (pos 1))
 unfolding firstOf scan numberAt naturalAt
 four-numbers = refl
 

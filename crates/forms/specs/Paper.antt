@@ -1,2 +1,3 @@
 -- "one bracket form a line" as definitions.
+pub mod Lines
 pub mod Forms

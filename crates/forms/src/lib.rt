@@ -1,108 +1,72 @@
 // "one bracket form a line": the form that a line is.
-use formats::scan::scan;
+pub mod line;
+mod table;
+
+use entries::Entry;
+use formats::scan::PLACES;
+use table::first;
 ghost use mathlib.Core.Path.{_≡_};
-ghost use Rattle.forms.specs.Paper.Forms.{looks, firstOf, formOf};
+ghost use Rattle.forms.specs.Paper.Forms.{formOf};
+ghost use Rattle.forms.specs.Table.{madeAt};
 
 // A form with its numbers.
 pub enum Form {
-    Addition {
-        length: i32,
-        earliest: i32,
-        latest: i32,
-        mark: i32,
-    },
-    Arc {
-        from: i32,
-        to: i32,
-    },
-    Mark {
-        job: i32,
-        mark: i32,
-    },
-    Cut {
-        job: i32,
-        earliest: i32,
-        latest: i32,
-    },
-    Row {
-        job: i32,
-    },
-    Pair {
-        a: i32,
-        b: i32,
-    },
-    Plan {
-        budget: i32,
-    },
+    Entry(Entry),
+    Row { job: i32 },
+    Pair { a: i32, b: i32 },
+    Plan { budget: i32 },
     Tally,
     // The line is no form.
     Unknown,
 }
 
-// The forms that look at the board.
-fn read_look(line: &[u8]) -> Form
-    ensures { λ r. ⌜ r ≡ firstOf looks (now (line .entry)) ⌝ }
-{
-    let row = scan(b"(row #)", line);
-    if row.matched {
-        let n = row.numbers;
-        return Form::Row { job: n[0] };
-    }
-    let pair = scan(b"(two # #)", line);
-    if pair.matched {
-        let n = pair.numbers;
-        return Form::Pair { a: n[0], b: n[1] };
-    }
-    let plan = scan(b"(plan #)", line);
-    if plan.matched {
-        let n = plan.numbers;
-        return Form::Plan { budget: n[0] };
-    }
-    let tally = scan(b"(tally)", line);
-    if tally.matched {
-        return Form::Tally;
-    }
-    Form::Unknown
-}
-
-// The forms that make entries, and then the others.
+// The first format of the table that the line is written by; each format has its arm in `form_of`, in the same order.
 pub fn read(line: &[u8]) -> Form
     ensures { λ r. ⌜ r ≡ formOf (now (line .entry)) ⌝ }
 {
-    let addition = scan(b"(add (len #) (win # #) (mark #))", line);
-    if addition.matched {
-        let n = addition.numbers;
-        return Form::Addition {
+    let table = b"\
+        (add (len #) (win # #) (mark #))\n\
+        (arc # #)\n\
+        (mark # #)\n\
+        (cut # (win # #))\n\
+        (row #)\n\
+        (two # #)\n\
+        (plan #)\n\
+        (tally)\n\
+    ";
+    let found = first(table, line);
+    let numbers = found.numbers;
+    form_of(found.index, numbers)
+}
+
+// The form that a format of the table makes of its numbers, n[0] the first.
+fn form_of(index: usize, n: [i32; PLACES]) -> Form
+    ensures { λ r. ⌜ r ≡ madeAt index n ⌝ }
+{
+    match index {
+        0 => Form::Entry(Entry::Addition {
             length: n[0],
             earliest: n[1],
             latest: n[2],
             mark: n[3],
-        };
-    }
-    let arc = scan(b"(arc # #)", line);
-    if arc.matched {
-        let n = arc.numbers;
-        return Form::Arc {
+        }),
+        1 => Form::Entry(Entry::Arc {
             from: n[0],
             to: n[1],
-        };
-    }
-    let mark = scan(b"(mark # #)", line);
-    if mark.matched {
-        let n = mark.numbers;
-        return Form::Mark {
+        }),
+        2 => Form::Entry(Entry::Mark {
             job: n[0],
             mark: n[1],
-        };
-    }
-    let cut = scan(b"(cut # (win # #))", line);
-    if cut.matched {
-        let n = cut.numbers;
-        return Form::Cut {
+        }),
+        3 => Form::Entry(Entry::Cut {
             job: n[0],
             earliest: n[1],
             latest: n[2],
-        };
+        }),
+        4 => Form::Row { job: n[0] },
+        5 => Form::Pair { a: n[0], b: n[1] },
+        6 => Form::Plan { budget: n[0] },
+        7 => Form::Tally,
+        _ => Form::Unknown,
     }
-    read_look(line)
 }

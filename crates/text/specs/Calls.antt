@@ -7,12 +7,13 @@ use lib.Dec.{leb}
 use lib.ListN.{length}
 use Rattle.board.specs.declared.Board.{Board}
 use Rattle.board.specs.Paper.Limits.{emptyBoard}
-use Rattle.entries.specs.Paper.Entry.{Entry, addition, other, arc, mark, cut}
+use Rattle.entries.specs.Paper.Entry.{Entry}
+use Rattle.entries.specs.Paper.Values.{entryOf}
 use Rattle.entries.specs.Paper.Sequence.{byValue, Call, after}
 use Rattle.forms.specs.declared.Form.{Form}
-use Rattle.forms.specs.declared.Form.the-variants.{Addition, Arc, Mark, Cut, Row, Pair, Plan, Tally, Unknown}
+use Rattle.forms.specs.declared.Form.the-variants.{Entry as Enters, Row, Pair, Plan, Tally, Unknown}
 use Rattle.forms.specs.Paper.Forms.{formOf}
-use Rattle.text.specs.Paper.Lines.{Line, ended, unended, linesOf}
+use Rattle.forms.specs.Paper.Lines.{Line, ended, unended, linesOf}
 use Rattle.text.specs.Paper.Text.{carriedOut, serve, loadLimit, answer}
 
 abbrev called : Entry → List Call
@@ -20,10 +21,7 @@ called e = record { manner = byValue; entry = e } ∷ []
 
 -- the call that a form makes, if it makes an entry
 abbrev pub callOf : Form → List Call
-callOf (Addition l e d m) = called (addition l e d m)
-callOf (Arc x y) = called (other (arc x y))
-callOf (Mark j m) = called (other (mark j m))
-callOf (Cut j e d) = called (other (cut j e d))
+callOf (Enters e) = called (entryOf e)
 callOf (Row j) = []
 callOf (Pair x y) = []
 callOf (Plan n) = []
@@ -37,10 +35,7 @@ callsOf (unended l ∷ ls) = callsOf ls
 
 carried-after : (b : Board) (f : Form) (cs : List Call) → after (carriedOut b f .board) cs ≡ after b (callOf f ++ cs)
 unfolding carriedOut after
-carried-after b (Addition l e d m) cs = refl
-carried-after b (Arc x y) cs = refl
-carried-after b (Mark j m) cs = refl
-carried-after b (Cut j e d) cs = refl
+carried-after b (Enters e) cs = refl
 carried-after b (Row j) cs = refl
 carried-after b (Pair x y) cs = refl
 carried-after b (Plan n) cs = refl

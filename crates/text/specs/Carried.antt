@@ -12,17 +12,18 @@ use Rattle.board.specs.declared.Board.{Board}
 use Rattle.board.specs.declared.Refusal.the-variants as Refused
 use Rattle.board.specs.Paper.Refusals.{numberOf}
 use Rattle.entries.specs.declared.Entered.{Entered}
+use Rattle.entries.specs.declared.Entry.{Entry}
 use Rattle.entries.specs.declared.RowAnswer.{RowAnswer}
 use Rattle.entries.specs.declared.PairAnswer.{PairAnswer}
 use Rattle.entries.specs.Paper.Answers.{rowReplyOf, pairReplyOf}
-use Rattle.entries.specs.Paper.Entry.{addition, other, arc, mark, cut}
 use Rattle.entries.specs.Paper.Enter.{enter}
+use Rattle.entries.specs.Paper.Values.{entryOf}
 use Rattle.entries.specs.Paper.Looking.{row, pair}
 use Rattle.tries.specs.declared.Planned.{Planned}
 use Rattle.tries.specs.Paper.Answers.{planReplyOf}
 use Rattle.tries.specs.Paper.Planner.{plan}
 use Rattle.forms.specs.declared.Form.{Form}
-use Rattle.forms.specs.declared.Form.the-variants.{Addition, Arc, Mark, Cut, Row, Pair, Plan, Tally, Unknown}
+use Rattle.forms.specs.declared.Form.the-variants.{Entry as Enters, Row, Pair, Plan, Tally, Unknown}
 use Rattle.replies.specs.Paper.Replies.{refusalText, rowText, pairText, planText, tallyText}
 use Rattle.text.specs.Paper.Text.{Answered, replyText, entered, carriedOut}
 
@@ -31,27 +32,9 @@ abbrev pub Gives : List ℕ → ℕ → List ℕ → ℕ → ℕ → Board → A
 Gives o i p j n a x = Written o i p j (replyText (x .reply)) n × (a ≡ x .board)
 
 module _ {o p : List ℕ} {i j n : ℕ} {a : Board} (b : Board) (f : Form) where
-  module _ {e : Entered} where
-    pub addition-gives : {x y z w : ℤ} → f ≡ Addition x y z w → SFits w32 x → SFits w32 y → SFits w32 z → SFits w32 w
-        → e ≡ enter b (addition (held x) (held y) (held z) (held w)) → Gives o i p j n a (entered e)
-        → Gives o i p j n a (carriedOut b f)
-    unfolding carriedOut
-    addition-gives is fx fy fz fw said = rw (is, ← simp (toZ-ofZ, fx, fy, fz, fw) at said) λ h. h
-
-    pub arc-gives : {x y : ℤ} → f ≡ Arc x y → SFits w32 x → SFits w32 y → e ≡ enter b (other (arc (held x) (held y)))
-        → Gives o i p j n a (entered e) → Gives o i p j n a (carriedOut b f)
-    unfolding carriedOut
-    arc-gives is fx fy said = rw (is, ← simp (toZ-ofZ, fx, fy) at said) λ h. h
-
-    pub mark-gives : {x y : ℤ} → f ≡ Mark x y → SFits w32 x → SFits w32 y → e ≡ enter b (other (mark (held x) (held y)))
-        → Gives o i p j n a (entered e) → Gives o i p j n a (carriedOut b f)
-    unfolding carriedOut
-    mark-gives is fx fy said = rw (is, ← simp (toZ-ofZ, fx, fy) at said) λ h. h
-
-    pub cut-gives : {x y z : ℤ} → f ≡ Cut x y z → SFits w32 x → SFits w32 y → SFits w32 z
-        → e ≡ enter b (other (cut (held x) (held y) (held z))) → Gives o i p j n a (entered e) → Gives o i p j n a (carriedOut b f)
-    unfolding carriedOut
-    cut-gives is fx fy fz said = rw (is, ← simp (toZ-ofZ, fx, fy, fz) at said) λ h. h
+  pub entry-gives : {e : Entered} {x : Entry} → f ≡ Enters x → e ≡ enter b (entryOf x) → Gives o i p j n a (entered e) → Gives o i p j n a (carriedOut b f)
+  unfolding carriedOut
+  entry-gives is said = rw (is, ← said) λ h. h
 
   -- a form that looks at the board leaves it as it is
   module _ {k : ℕ} (same : (a ≡ b) × (j ≡ k)) where

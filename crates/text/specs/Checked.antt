@@ -19,7 +19,8 @@ use Rattle.board.specs.Paper.Tests.{live}
 use Rattle.closure.specs.Check.{passes}
 use Rattle.closure.specs.Checked.{empty-passes}
 use Rattle.forms.specs.Paper.Forms.{formOf}
-use Rattle.entries.specs.Paper.Entry.{Entry, number, addition, other, arc, mark, cut}
+use Rattle.entries.specs.Paper.Entry.{Entry, number}
+use Rattle.entries.specs.Paper.Values.{entryOf}
 use Rattle.entries.specs.Paper.Gate.{Check, jobCheck, pairChecks, budgetCheck, gate}
 use Rattle.entries.specs.Paper.Enter.{enter}
 use Rattle.entries.specs.Paper.Looking.{row, arcs, pair}
@@ -33,16 +34,13 @@ use Rattle.tries.specs.Paper.Exact.{taken}
 use Rattle.tries.specs.Paper.Planner as planner
 use Rattle.tries.specs.Paper.Planner.{plan}
 use Rattle.forms.specs.declared.Form.{Form}
-use Rattle.forms.specs.declared.Form.the-variants.{Addition, Arc, Mark, Cut, Row, Pair, Plan, Tally, Unknown}
-use Rattle.text.specs.Paper.Lines.{Line, ended, unended, linesOf}
+use Rattle.forms.specs.declared.Form.the-variants.{Entry as Enters, Row, Pair, Plan, Tally, Unknown}
+use Rattle.forms.specs.Paper.Lines.{Line, ended, unended, linesOf}
 use Rattle.text.specs.Paper.Text.{LineReply, to-entry, to-row, to-pair, to-plan, to-tally, carriedOut, answered, serve, loadLimit, answer}
 
 pub carried-passes : (b : Board) (f : Form) → passes b ≡ true → passes (carriedOut b f .board) ≡ true
 unfolding carriedOut
-carried-passes b (Addition l e d m) p = call-later b (addition l e d m) p .passes
-carried-passes b (Arc x y) p = call-later b (other (arc x y)) p .passes
-carried-passes b (Mark j m) p = call-later b (other (mark j m)) p .passes
-carried-passes b (Cut j e d) p = call-later b (other (cut j e d)) p .passes
+carried-passes b (Enters e) p = call-later b (entryOf e) p .passes
 carried-passes b (Row j) p = p
 carried-passes b (Pair x y) p = p
 carried-passes b (Plan n) p = p
@@ -126,10 +124,7 @@ module _ (b : Board) (p : passes b ≡ true) where
 
   carried-not-zero : (f : Form) → NotZero (carriedOut b f .reply)
   unfolding carriedOut refusalIn
-  carried-not-zero (Addition l e d m) = entry-not-zero (addition l e d m)
-  carried-not-zero (Arc x y) = entry-not-zero (other (arc x y))
-  carried-not-zero (Mark j m) = entry-not-zero (other (mark j m))
-  carried-not-zero (Cut j e d) = entry-not-zero (other (cut j e d))
+  carried-not-zero (Enters e) = entry-not-zero (entryOf e)
   carried-not-zero (Row j) = row-not-zero j
   carried-not-zero (Pair x y) = pair-not-zero x y
   carried-not-zero (Plan n) = plan-not-zero n

@@ -23,7 +23,7 @@ use Rattle.numerals.specs.Numerals.{naturalAt, numberAt}
 use Rattle.formats.specs.Format.{scan, filled}
 use Rattle.forms.specs.Paper.Forms.{firstOf}
 use Rattle.replies.specs.Paper.Replies.{placementsText}
-use Rattle.text.specs.Paper.Lines.{linesOf}
+use Rattle.forms.specs.Paper.Lines.{linesOf}
 use Rattle.text.specs.Paper.Text.{carriedOut, serve, answer, output}
 
 abbrev pub Gives : String → String → Type 0

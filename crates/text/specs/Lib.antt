@@ -6,7 +6,6 @@ pub mod Checked
 pub mod NeverZero
 pub mod Calls
 -- what the code goes by: a line at a time, and a piece at a time
-pub mod LineLaws
 pub mod Carried
 pub mod Serving
 pub mod Pieces

@@ -15,7 +15,7 @@ use Rattle.closure.specs.Checked.{empty-passes}
 use Rattle.replies.specs.Paper.Replies.{refusalText}
 use Rattle.replies.specs.Room.{longest}
 use Rattle.text.specs.declared.Piece.{Piece}
-use Rattle.text.specs.Paper.Lines.{linesOf}
+use Rattle.forms.specs.Paper.Lines.{linesOf}
 use Rattle.text.specs.Paper.Text.{overloaded, serve, loadLimit, answer, output}
 use Rattle.text.specs.Serving.{Continues, Answers}
 

@@ -18,11 +18,11 @@ use Rattle.closure.specs.Check.{passes}
 use Rattle.forms.specs.Paper.Forms.{formOf}
 use Rattle.replies.specs.Paper.Replies.{refusalText}
 use Rattle.replies.specs.Room.{longest}
-use Rattle.text.specs.Paper.Lines.{linesOf}
+use Rattle.forms.specs.Paper.Lines.{linesOf}
 use Rattle.text.specs.Paper.Text.{Served, carriedOut, serve}
 use Rattle.text.specs.Carried.{Gives}
 use Rattle.text.specs.Checked.{carried-passes}
-use Rattle.text.specs.LineLaws.{lineLength}
+use Rattle.forms.specs.LineLaws.{lineLength}
 use Rattle.text.specs.Serving.{Continues, continues-start, continues-then, continues-line, continues-last, Answers}
 
 -- the bytes before `at` are written, and `left` is what remains of the text

@@ -1,3 +1,2 @@
 -- "The text" as definitions.
-pub mod Lines
 pub mod Text

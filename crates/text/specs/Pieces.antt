@@ -7,7 +7,7 @@ use lib.ListN.{take, drop}
 use Rattle.board.specs.declared.Board.{Board}
 use Rattle.closure.specs.Check.{passes}
 use Rattle.text.specs.declared.Piece.{Piece}
-use Rattle.text.specs.Paper.Lines.{linesOf}
+use Rattle.forms.specs.Paper.Lines.{linesOf}
 use Rattle.text.specs.Paper.Text.{serve, answer, output}
 use Rattle.text.specs.Serving.{Continues, continues-then, Answers}
 

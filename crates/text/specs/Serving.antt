@@ -12,9 +12,9 @@ use Rattle.closure.specs.Check.{passes}
 use Rattle.forms.specs.Paper.Forms.{formOf}
 use Rattle.replies.specs.Paper.Replies.{refusalText}
 use Rattle.text.specs.declared.Piece.{Piece}
-use Rattle.text.specs.Paper.Lines.{Line, linesOf}
+use Rattle.forms.specs.Paper.Lines.{Line, linesOf}
 use Rattle.text.specs.Paper.Text.{Served, replyText, carriedOut, answered, serve, output}
-use Rattle.text.specs.LineLaws.{lineLength, lines-ended, lines-unended}
+use Rattle.forms.specs.LineLaws.{lineLength, lines-ended, lines-unended}
 
 -- s gives the bytes w, and then what the text t gives from board b
 pub record Continues (s : Served) (w : List ℕ) (b : Board) (t : List ℕ) : Type 0 where

@@ -1,9 +1,7 @@
 // The answer to a form, and the board after it.
 use board::Board;
 use board::Refusal;
-use calls::addition;
-use calls::arc;
-use calls::cut;
+use calls::enter;
 use entries::Entered;
 use forms::Form;
 use planner::plan;
@@ -53,19 +51,7 @@ pub fn answer(board: Board, form: Form, out: &mut [u8], at: usize) -> Answered
     ensures { λ r. ⌜ r .board ≡ paper.carriedOut board form .board ⌝ }
 {
     match form {
-        Form::Addition {
-            length,
-            earliest,
-            latest,
-            mark,
-        } => entered(out, at, addition(board, length, earliest, latest, mark)),
-        Form::Arc { from, to } => entered(out, at, arc(board, from, to)),
-        Form::Mark { job, mark } => entered(out, at, calls::mark(board, job, mark)),
-        Form::Cut {
-            job,
-            earliest,
-            latest,
-        } => entered(out, at, cut(board, job, earliest, latest)),
+        Form::Entry(entry) => entered(out, at, enter(board, entry)),
         Form::Row { job } => looked(board, put_row(out, at, job, row(board, job))),
         Form::Pair { a, b } => looked(board, put_pair(out, at, pair(board, a, b))),
         Form::Plan { budget } => looked(board, put_plan(out, at, plan(board, budget))),

@@ -1,12 +1,11 @@
 // "The text": a text answered from bytes to bytes, a piece at a time.
 mod answer;
-mod line;
 
 use answer::answer;
 use board::Board;
 use board::Refusal;
+use forms::line::line_length;
 use forms::read;
-use line::line_length;
 use replies::LONGEST;
 use replies::put_refusal;
 ghost use mathlib.Core.Path.{_≡_};
@@ -15,7 +14,7 @@ ghost use Prim.Native.Nat.{_≤_};
 ghost use lib.ListN.{length};
 ghost use Rattle.closure.specs.Check.{passes};
 ghost use Rattle.replies.specs.Room.{longest};
-ghost use Rattle.text.specs.Paper.Lines.{linesOf};
+ghost use Rattle.forms.specs.Paper.Lines.{linesOf};
 ghost use Rattle.text.specs.Paper.Text as paper;
 ghost use Rattle.text.specs.Serving.{Answers};
 

@@ -7,52 +7,33 @@ use mathlib.Core.List.{List, [], _∷_}
 use mathlib.Core.Option.{none, some}
 use Rattle.numerals.specs.Bytes.{bytes}
 use Rattle.formats.specs.Format.{scan}
+use Rattle.entries.specs.declared.Entry.the-variants.{Addition, Arc, Mark, Cut}
 use Rattle.forms.specs.declared.Form.{Form}
-use Rattle.forms.specs.declared.Form.the-variants.{Addition, Arc, Mark, Cut, Row, Pair, Plan, Tally, Unknown}
+use Rattle.forms.specs.declared.Form.the-variants.{Entry, Row, Pair, Plan, Tally, Unknown}
 
--- how a form is written, `#` for a number, and what it says with its numbers in turn, of which no form has more than four
+-- how a form is written, `#` for a number, and what it says with its numbers: `n 0` is the first
 pub record Shape : Type 0 where
   pub format : List ℕ
-  pub form : ℤ → ℤ → ℤ → ℤ → Form
+  pub form : (ℕ → ℤ) → Form
 
-abbrev pub written : String → (ℤ → ℤ → ℤ → ℤ → Form) → Shape
+abbrev pub written : String → ((ℕ → ℤ) → Form) → Shape
 written s f = record { format = bytes s; form = f }
 
-abbrev pub addition : Shape
-addition = written "(add (len #) (win # #) (mark #))" Addition
-
-abbrev pub arc : Shape
-arc = written "(arc # #)" (λ a b _ _. Arc a b)
-
-abbrev pub mark : Shape
-mark = written "(mark # #)" (λ j m _ _. Mark j m)
-
-abbrev pub cut : Shape
-cut = written "(cut # (win # #))" (λ j e d _. Cut j e d)
-
-abbrev pub row : Shape
-row = written "(row #)" (λ j _ _ _. Row j)
-
-abbrev pub pair : Shape
-pair = written "(two # #)" (λ a b _ _. Pair a b)
-
-abbrev pub plan : Shape
-plan = written "(plan #)" (λ n _ _ _. Plan n)
-
-abbrev pub tally : Shape
-tally = written "(tally)" (λ _ _ _ _. Tally)
-
--- the forms that look at the board
-abbrev pub looks : List Shape
-looks = row ∷ pair ∷ plan ∷ tally ∷ []
-
--- those that make entries, and these
 abbrev pub shapes : List Shape
-shapes = addition ∷ arc ∷ mark ∷ cut ∷ looks
+shapes =
+    written "(add (len #) (win # #) (mark #))" (λ n. Entry (Addition (n 0) (n 1) (n 2) (n 3)))
+    ∷ written "(arc # #)" (λ n. Entry (Arc (n 0) (n 1)))
+    ∷ written "(mark # #)" (λ n. Entry (Mark (n 0) (n 1)))
+    ∷ written "(cut # (win # #))" (λ n. Entry (Cut (n 0) (n 1) (n 2)))
+    ∷ written "(row #)" (λ n. Row (n 0))
+    ∷ written "(two # #)" (λ n. Pair (n 0) (n 1))
+    ∷ written "(plan #)" (λ n. Plan (n 0))
+    ∷ written "(tally)" (λ n. Tally)
+    ∷ []
 
 -- what a shape says with these numbers
 abbrev pub said : Shape → List ℤ → Form
-said s zs = s .form (getD zs 0 (pos 0)) (getD zs 1 (pos 0)) (getD zs 2 (pos 0)) (getD zs 3 (pos 0))
+said s zs = s .form (λ k. getD zs k (pos 0))
 
 -- the first of the forms that a line is written as
 unfoldable pub firstOf : List Shape → List ℕ → Form

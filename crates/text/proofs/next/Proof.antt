@@ -8,9 +8,9 @@ use borrow.Author.Needs.{needs}
 use Rattle.numerals.specs.Rest.{rest-length}
 use Rattle.replies.specs.Room.{longest}
 use Rattle.numerals.specs.Prefix.{prefix-within}
-use Rattle.text.specs.LineLaws.{inLine, lineLength}
+use Rattle.forms.specs.LineLaws.{inLine, lineLength}
 use Rattle.text.specs.Loop.{Going, going-start, going-line, full, done, last}
-use Rattle.text.specs.Paper.Lines.{linesOf}
+use Rattle.forms.specs.Paper.Lines.{linesOf}
 use Rattle.text.specs.Paper.Text.{serve}
 use Rattle.text.proofs.next.Statement.{statement}
 use Rattle.text.proofs.next.Tie as tie

@@ -10,16 +10,16 @@ use Rattle.board.specs.declared.Refusal.the-variants as Refused
 use Rattle.board.specs.Paper.Refusals.{numberOf}
 use Rattle.board.specs.Paper.Limits.{emptyBoard}
 use Rattle.entries.specs.declared.Entered.{Entered}
-use Rattle.entries.specs.Paper.Entry.{addition, other, arc, mark, cut}
 use Rattle.entries.specs.Paper.Enter.{enter}
 use Rattle.entries.specs.Paper.Looking.{row, pair}
+use Rattle.entries.specs.Paper.Values.{entryOf}
 use Rattle.entries.specs.Paper.Answers.{Reply, RowReply, PairReply, no-number, replyOf, rowReplyOf, pairReplyOf}
 use Rattle.tries.specs.Paper.Answers.{PlanReply, planReplyOf}
 use Rattle.tries.specs.Paper.Planner.{plan}
 use Rattle.forms.specs.declared.Form.{Form}
-use Rattle.forms.specs.declared.Form.the-variants.{Addition, Arc, Mark, Cut, Row, Pair, Plan, Tally, Unknown}
+use Rattle.forms.specs.declared.Form.the-variants.{Entry, Row, Pair, Plan, Tally, Unknown}
 use Rattle.forms.specs.Paper.Forms.{formOf}
-use Rattle.text.specs.Paper.Lines.{Line, ended, unended, linesOf}
+use Rattle.forms.specs.Paper.Lines.{Line, ended, unended, linesOf}
 use Rattle.replies.specs.Paper.Replies.{entryText, rowText, pairText, planText, tallyText}
 
 -- the answer to a line
@@ -53,10 +53,7 @@ abbrev pub formless : Board → Answered
 formless b = looked b (to-entry (no-number (numberOf Refused.Form)))
 
 unfoldable pub carriedOut : Board → Form → Answered
-carriedOut b (Addition l e d m) = entered (enter b (addition l e d m))
-carriedOut b (Arc x y) = entered (enter b (other (arc x y)))
-carriedOut b (Mark j m) = entered (enter b (other (mark j m)))
-carriedOut b (Cut j e d) = entered (enter b (other (cut j e d)))
+carriedOut b (Entry e) = entered (enter b (entryOf e))
 carriedOut b (Row j) = looked b (to-row j (rowReplyOf (row b j)))
 carriedOut b (Pair x y) = looked b (to-pair (pairReplyOf (pair b x y)))
 carriedOut b (Plan n) = looked b (to-plan (planReplyOf (plan b n)))

@@ -7,7 +7,7 @@ use native.Mathlib.Omega.{arith}
 use lib.Dec.{eqb}
 use lib.ListN.{length, take, drop}
 use Rattle.numerals.specs.Prefix.{prefix}
-use Rattle.text.specs.Paper.Lines.{lineFeed, ended, unended, withByte, linesOf}
+use Rattle.forms.specs.Paper.Lines.{lineFeed, ended, unended, withByte, linesOf}
 
 -- a byte of a line
 abbrev pub inLine : ℕ → Bool
@@ -16,6 +16,11 @@ inLine c = not (eqb c lineFeed)
 -- how many bytes stand before the first line feed, or in the whole text where there is none
 abbrev pub lineLength : List ℕ → ℕ
 lineLength t = length (prefix inLine t)
+
+pub no-lines : (t : List ℕ) → length t ≡ 0 → linesOf t ≡ []
+unfolding linesOf
+no-lines [] e = refl
+no-lines (c ∷ t) e = absurd (omega arith)
 
 -- the text that a byte more makes, where the law holds of the rest
 module _ (c : ℕ) (t : List ℕ) where

@@ -1,6 +1,6 @@
 // The first line of a text.
 ghost use mathlib.Core.Path.{_≡_};
-ghost use Rattle.text.specs.LineLaws.{lineLength};
+ghost use Rattle.forms.specs.LineLaws.{lineLength};
 
 // How many bytes stand before the first line feed, or in the whole text where there is none.
 pub fn line_length(text: &[u8]) -> usize

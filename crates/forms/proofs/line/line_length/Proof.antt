@@ -1,4 +1,4 @@
--- `text::line::line_length` meets its contract: none of the bytes passed is a line feed.
+-- `forms::line::line_length` meets its contract: none of the bytes passed is a line feed.
 use Prim.Native.Nat.{_+_, _-_, _≤_}
 use mathlib.Core.Path.{_≡_, ap}
 use mathlib.Core.Bool.{not}
@@ -7,9 +7,9 @@ use lib.ListN.{length, drop}
 use borrow.Author.Needs.{needs}
 use borrow.Author.Tests.{eq-eqb, ne-eqb}
 use Rattle.numerals.specs.Prefix.{prefix-goes-on, prefix-ends, prefix-over}
-use Rattle.text.specs.LineLaws.{inLine, lineLength}
-use Rattle.text.proofs.line.line_length.Statement.{statement}
-use Rattle.text.proofs.line.line_length.Tie as tie
+use Rattle.forms.specs.LineLaws.{inLine, lineLength}
+use Rattle.forms.proofs.line.line_length.Statement.{statement}
+use Rattle.forms.proofs.line.line_length.Tie as tie
 
 abbrev Inv-loop : tie.InvT-loop
 Inv-loop text n₀ n = (n ≤ length text) × (lineLength text ≡ n + lineLength (drop n text))
