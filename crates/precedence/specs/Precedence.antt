@@ -18,6 +18,7 @@ use Rattle.board.specs.declared.Board.{Board}
 use Rattle.board.specs.Paper.View.{Live, Valid, Side, early, late, Beyond, view}
 use Rattle.board.specs.Paper.Facts.{is-bound}
 use Rattle.board.specs.Paper.Limits.{IsTime, Within}
+use Rattle.board.specs.Paper.Parts.{filled}
 use Rattle.board.specs.Paper.Values.{turned}
 use Rattle.board.specs.Inference.Infers.{Infers}
 use Rattle.board.specs.Tests.Live.{live-show}
@@ -38,28 +39,8 @@ fixedOf b late = b .earliest
 
 -- the board b with other times on side s
 abbrev pub withTimes : Side → Board → List ℤ → Board
-withTimes early b times =
-    record {
-      jobs = b .jobs;
-      lengths = b .lengths;
-      earliest = times;
-      latest = b .latest;
-      marks = b .marks;
-      after = b .after;
-      before = b .before;
-      tally = b .tally;
-    }
-withTimes late b times =
-    record {
-      jobs = b .jobs;
-      lengths = b .lengths;
-      earliest = b .earliest;
-      latest = times;
-      marks = b .marks;
-      after = b .after;
-      before = b .before;
-      tally = b .tally;
-    }
+withTimes early b times = filled b (b .lengths) times (b .latest) (b .marks) (b .after) (b .before)
+withTimes late b times = filled b (b .lengths) (b .earliest) times (b .marks) (b .after) (b .before)
 
 -- On any board with the times `times` on side s of which P holds, inferences lead to the times `times'`.
 abbrev pub Raises : Side → (Board → Type 0) → List ℤ → List ℤ → Type 0
