@@ -7,8 +7,7 @@ use Prim.Native.Nat.{ℕ}
 use lib.IntN.{ℤ}
 use Rattle.board.specs.declared.Board.{Board}
 use Rattle.board.specs.Paper.Limits.{Within}
-use Rattle.board.specs.Paper.Parts.{filled}
-use Rattle.board.specs.Update.Filled.{possibly, ArraysWithin, Alters}
+use Rattle.board.specs.Update.Filled.{filled, possibly, ArraysWithin, Alters}
 use Rattle.board.specs.Update.Updates.{_andThen_}
 use Rattle.closure.specs.Closing.{closure}
 use Rattle.statements.specs.declared.stated.Stated.{Stated}

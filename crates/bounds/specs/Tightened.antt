@@ -12,7 +12,7 @@ use Rattle.board.specs.Paper.View.{Side, rowOf}
 use Rattle.board.specs.Paper.Facts.{is-bound}
 use Rattle.board.specs.Paper.Values.{turned}
 use Rattle.board.specs.Update.Updates.{exclude, tighten, update}
-use Rattle.board.specs.Paper.Parts.{filled}
+use Rattle.board.specs.Update.Filled.{filled}
 use Rattle.board.specs.Update.Shown.{boundShown, bound-new}
 use Rattle.windows.specs.declared.Window.{Window}
 use Rattle.windows.specs.Windows.{bounded, windowOf, moved}

@@ -18,9 +18,8 @@ use Rattle.minutes.specs.Bools.{and-parts, refuted}
 use Rattle.board.specs.declared.Board.{Board}
 use Rattle.board.specs.Paper.View.{Live, Valid, view, rowOf}
 use Rattle.board.specs.Paper.Limits.{jobLimit, Within}
-use Rattle.board.specs.Paper.Parts.{filled}
 use Rattle.board.specs.Tests.Live.{live-yes, valid-yes, valid-show}
-use Rattle.board.specs.Update.Filled.{possibly, ArraysWithin}
+use Rattle.board.specs.Update.Filled.{filled, possibly, ArraysWithin}
 use Rattle.board.specs.Update.Strike.{strike}
 use Rattle.board.specs.Update.StrikeLaws.{strike-member, strike-other}
 use Rattle.board.specs.Update.Reaches.{Reached, Reaches, reached-self}

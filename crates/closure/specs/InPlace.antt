@@ -11,10 +11,9 @@ use Rattle.board.specs.Paper.View.{view}
 use Rattle.board.specs.declared.facts.Fact as Facts
 use Rattle.board.specs.Paper.Facts.{Fact, Holds, Known}
 use Rattle.board.specs.Paper.Limits.{jobLimit, Within}
-use Rattle.board.specs.Paper.Parts.{filled}
 use Rattle.board.specs.Paper.Values.{factOf}
 use Rattle.board.specs.Inference.Infers.{Infers, Obeys}
-use Rattle.board.specs.Update.Filled.{arrayed, ArraysWithin, possibly, Alters}
+use Rattle.board.specs.Update.Filled.{filled, arrayed, ArraysWithin, possibly, Alters}
 use Rattle.board.specs.Update.Updates.{update}
 use Rattle.board.specs.Update.Reaches.{Reaches, reached-self, reaches-then, infers-known}
 use Rattle.updates.specs.Applicable.{Timely}

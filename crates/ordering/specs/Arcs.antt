@@ -12,7 +12,7 @@ use Rattle.board.specs.Paper.Limits.{Within}
 use Rattle.board.specs.Order.Laws.{arc-up}
 use Rattle.board.specs.Inference.Infers.{Infers, r1, r3}
 use Rattle.board.specs.Tests.Live.{live-show}
-use Rattle.board.specs.Paper.Parts.{filled}
+use Rattle.board.specs.Update.Filled.{filled}
 use Rattle.board.specs.Update.Updates.{link, update}
 use Rattle.board.specs.Update.Reaches.{Reached, reached-self, reaches-then, further}
 

@@ -18,10 +18,10 @@ use Rattle.board.specs.declared.Board.{Board}
 use Rattle.board.specs.Paper.View.{Live, Valid, Side, early, late, Beyond, view}
 use Rattle.board.specs.Paper.Facts.{is-bound}
 use Rattle.board.specs.Paper.Limits.{IsTime, Within}
-use Rattle.board.specs.Paper.Parts.{filled}
 use Rattle.board.specs.Paper.Values.{turned}
 use Rattle.board.specs.Inference.Infers.{Infers}
 use Rattle.board.specs.Tests.Live.{live-show}
+use Rattle.board.specs.Update.Filled.{filled}
 use Rattle.board.specs.Update.Updates.{update, tighten}
 use Rattle.board.specs.Update.Reaches.{Reached, Reaches, reached-self, reaches-then, further}
 use Rattle.energy.specs.Energy.{boundAt, lengthAt, Times, Lengths, Pushes}

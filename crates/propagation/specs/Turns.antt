@@ -11,7 +11,7 @@ use Rattle.minutes.specs.Bools.{and-parts}
 use Rattle.board.specs.declared.Board.{Board}
 use Rattle.board.specs.Paper.View.{Live, Valid, early, late, view}
 use Rattle.board.specs.Paper.Limits.{jobLimit}
-use Rattle.board.specs.Paper.Parts.{filled}
+use Rattle.board.specs.Update.Filled.{filled}
 use Rattle.board.specs.Update.Reaches.{Reached, reaches-then}
 use Rattle.board.specs.Tests.Sets.{subset-difference}
 use Rattle.exclusion.specs.Gone.{AllGone, Crossed, Unfit, none-gone, both-gone, gone-before, crossed-gone, unfit-gone}

@@ -11,9 +11,9 @@ use Rattle.board.specs.declared.Board.{Board}
 use Rattle.board.specs.Paper.Facts.{Fact, Known}
 use Rattle.board.specs.Paper.View as Rows
 use Rattle.board.specs.Paper.Limits.{jobLimit, Fits, Within}
-use Rattle.board.specs.Paper.Parts.{filled, withJobs}
+use Rattle.board.specs.Paper.Parts.{withJobs}
 use Rattle.board.specs.Paper.Values.{factOf}
-use Rattle.board.specs.Update.Filled.{possibly, ArraysWithin, Alters}
+use Rattle.board.specs.Update.Filled.{filled, possibly, ArraysWithin, Alters}
 use Rattle.board.specs.Update.Updates.{append, update, _andThen_}
 use Rattle.board.specs.Update.Extension.{Extends, HasRow, Updated}
 use Rattle.board.specs.Update.Appended.{appended}

@@ -1,7 +1,7 @@
 -- `arcs::join` meets its contract: the arc is set where it is new. Assumes nothing.
 use mathlib.Core.Path.{sym, _∙_}
 use borrow.Author.Needs.{needs}
-use Rattle.board.specs.Paper.Parts.{filled}
+use Rattle.board.specs.Update.Filled.{filled}
 use Rattle.board.specs.Update.Shown.{arc-shown, arc-new}
 use Rattle.arcs.proofs.join.Statement.{statement}
 use Rattle.arcs.proofs.join.Tie as tie

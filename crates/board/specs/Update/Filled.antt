@@ -6,8 +6,9 @@ use mathlib.Core.Option.{Option, none, some}
 use Prim.Native.Nat.{ℕ}
 use lib.IntN.{ℤ}
 use Rattle.board.specs.declared.Board.{Board}
-use Rattle.board.specs.Paper.Parts.{ofParts, filled, emptyBooks}
+use Rattle.board.specs.Paper.Parts.{ofParts, emptyBooks}
 use Rattle.board.specs.Paper.Limits.{Within}
+pub use Rattle.board.specs.Paper.Parts.{filled}
 
 -- a board of n jobs by its arrays
 abbrev pub arrayed : ℕ → List ℤ → List ℤ → List ℤ → List ℕ → List ℕ → List ℕ → Board

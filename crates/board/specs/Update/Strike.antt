@@ -10,7 +10,7 @@ use lib.Seq.{set-getD}
 use Rattle.words.specs.Bit.{bit, difference}
 use Rattle.board.specs.declared.Board.{Board}
 use Rattle.board.specs.Paper.Limits.{jobLimit}
-use Rattle.board.specs.Paper.Parts.{filled}
+use Rattle.board.specs.Update.Filled.{filled}
 use Rattle.board.specs.Update.Places.{changed, partly, partly-more}
 
 -- what stands at place k, where the jobs of the set get `blank`

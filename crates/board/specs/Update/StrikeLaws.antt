@@ -22,7 +22,7 @@ use Rattle.board.specs.Tests.Ranges.{after-fits, before-fits}
 use Rattle.board.specs.Update.Updates.{isolate, invalidate}
 use Rattle.board.specs.Update.Stores.{place}
 use Rattle.board.specs.Update.Limits.{invalidate-within}
-use Rattle.board.specs.Paper.Parts.{filled}
+use Rattle.board.specs.Update.Filled.{filled}
 use Rattle.board.specs.Update.Places.{partly, length-partly, getD-changed, getD-kept, partly-keeps, partly-is, partly-put}
 use Rattle.board.specs.Update.Strike.{cleared, thinned, strikeBelow, strike}
 

@@ -10,7 +10,7 @@ use mir.Val.{SFits}
 use mir.ValLaws.{toZ-ofZ}
 use Rattle.board.specs.Paper.View.{rowOf}
 use Rattle.board.specs.Paper.Values.{sideOf}
-use Rattle.board.specs.Paper.Parts.{filled}
+use Rattle.board.specs.Update.Filled.{filled}
 use Rattle.windows.specs.WindowLaws.{edge-bound}
 use Rattle.bounds.proofs.is_bounded.Statement.{statement}
 use Rattle.bounds.proofs.is_bounded.Tie as tie

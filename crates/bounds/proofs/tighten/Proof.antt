@@ -8,7 +8,7 @@ use mir.Val.{SFits}
 use mir.ValLaws.{toZ-ofZ}
 use Rattle.minutes.specs.Bools.{refuted}
 use Rattle.board.specs.Paper.Values.{sideOf}
-use Rattle.board.specs.Paper.Parts.{filled}
+use Rattle.board.specs.Update.Filled.{filled}
 use Rattle.board.specs.Update.Shown.{bound-shown}
 use Rattle.windows.specs.Windows.{bounded}
 use Rattle.windows.specs.WindowLaws.{bounded-moderate}

@@ -1,7 +1,7 @@
 -- `strikes::exclude` meets its contract, mark by mark: to strike out the set of one job is to invalidate it. Assumes nothing.
 use native.Mathlib.Omega.{arith}
 use borrow.Author.Needs.{needs}
-use Rattle.board.specs.Paper.Parts.{filled}
+use Rattle.board.specs.Update.Filled.{filled}
 use Rattle.board.specs.Update.Excluded.{exclude-valid, exclude-invalid, exclude-undecided}
 use Rattle.strikes.proofs.exclude.Statement.{statement}
 use Rattle.strikes.proofs.exclude.Tie as tie

@@ -5,7 +5,7 @@ use Prim.Native.Nat.{_-_, _≤_}
 use native.Mathlib.Omega.{arith}
 use borrow.Author.Needs.{needs}
 use Rattle.board.specs.declared.Board.{Board}
-use Rattle.board.specs.Paper.Parts.{filled}
+use Rattle.board.specs.Update.Filled.{filled}
 use Rattle.board.specs.Update.Strike.{strikeBelow, none-below, one-below}
 use Rattle.strikes.proofs.strike.Statement.{statement}
 use Rattle.strikes.proofs.strike.Tie as tie

@@ -1,7 +1,7 @@
 -- `strikes::strike_at` meets its contract, by the law for a job of the set and that for the others. Assumes nothing.
 use mathlib.Core.Path.{sym, _∙_}
 use borrow.Author.Needs.{needs}
-use Rattle.board.specs.Paper.Parts.{filled}
+use Rattle.board.specs.Update.Filled.{filled}
 use Rattle.board.specs.Update.Strike.{at-member, at-other}
 use Rattle.strikes.proofs.strike_at.Statement.{statement}
 use Rattle.strikes.proofs.strike_at.Tie as tie

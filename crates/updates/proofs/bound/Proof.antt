@@ -4,7 +4,7 @@ use native.Mathlib.Omega.{arith}
 use mir.ValLaws.{toZ-ofZ}
 use Rattle.board.specs.Paper.Limits.{Within}
 use Rattle.board.specs.Tests.Ranges.{ranges, time-moderate, length-moderate}
-use Rattle.board.specs.Paper.Parts.{filled}
+use Rattle.board.specs.Update.Filled.{filled}
 use Rattle.board.specs.Update.Updates.{exclude}
 use Rattle.updates.proofs.bound.Statement.{statement}
 use Rattle.updates.proofs.bound.Tie as tie
