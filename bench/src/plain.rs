@@ -234,7 +234,8 @@ impl Enters for Plain {
         self.inferences = 0;
         if shown.and_then(|()| self.close()).is_err() {
             self.board = saved;
-            self.board.tally = (self.board.tally + 1).min(1_000_000);
+            let books = &mut self.board.books;
+            books.tally = (books.tally + 1).min(1_000_000);
             return Err(Refusal::Impossible);
         }
         Ok(())

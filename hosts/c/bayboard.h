@@ -39,6 +39,11 @@ enum {
     BAYBOARD_NO_BUDGET = 9      /* a budget below 0 or above 1000000 */
 };
 
+/* What a board keeps beside its jobs and their arcs: nothing that follows from an entry alters it. */
+typedef struct {
+    uint32_t tally; /* of entries refused as impossible, up to 1000000 */
+} bayboard_books;
+
 /* The board. Place k below `jobs` is job k; a place without a job holds 0 in everything. Bit k of after[i] is the arc from i to
  * k, and bit i of before[k] is the same arc. The host may read it, copy it, store it and compare it field by field; it may also
  * write it, and then every call below replies refusal 0 unless the board passes check 0. */
@@ -50,7 +55,7 @@ typedef struct {
     uint8_t marks[BAYBOARD_JOBS];
     uint64_t after[BAYBOARD_JOBS];
     uint64_t before[BAYBOARD_JOBS];
-    uint32_t tally; /* of entries refused as impossible, up to 1000000 */
+    bayboard_books books;
 } bayboard;
 
 /* To an entry. Accepted: `number` is the job's number where one was added, else 0. Refused: it is the refusal's number. */
@@ -134,7 +139,7 @@ bayboard_plan_reply bayboard_plan(const bayboard *board, int32_t budget);
 /* The layout that the library has. */
 #if defined(__STDC_VERSION__) && __STDC_VERSION__ >= 201112L
 _Static_assert(sizeof(size_t) == 8 && sizeof(bool) == 1, "Linux on x86-64");
-_Static_assert(sizeof(bayboard) == 1872 && offsetof(bayboard, tally) == 1864, "the board's layout");
+_Static_assert(sizeof(bayboard) == 1872 && offsetof(bayboard, books.tally) == 1864, "the board's layout");
 _Static_assert(offsetof(bayboard, lengths) == 8 && offsetof(bayboard, earliest) == 264, "the board's layout");
 _Static_assert(offsetof(bayboard, latest) == 520 && offsetof(bayboard, marks) == 776, "the board's layout");
 _Static_assert(offsetof(bayboard, after) == 840 && offsetof(bayboard, before) == 1352, "the board's layout");

@@ -43,7 +43,7 @@ static void print_set(const char *name, uint64_t set)
 
 static void print(const bayboard *board)
 {
-    printf("%zu jobs, %u refused as impossible\n", board->jobs, (unsigned)board->tally);
+    printf("%zu jobs, %u refused as impossible\n", board->jobs, (unsigned)board->books.tally);
     for (int32_t job = 0; job < (int32_t)board->jobs; job++) {
         bayboard_row_reply row = bayboard_row(board, job);
         expect(row.accepted, "a row of each job");

@@ -184,10 +184,10 @@ static int refusal(bayboard *board, const test *test)
     }
 }
 
-/* The fields stand without gaps up to the tally; what follows it is no field. */
+/* The fields stand without gaps up to the last of the books; what follows them is no field. */
 static bool same_boards(const bayboard *a, const bayboard *b)
 {
-    return memcmp(a, b, offsetof(bayboard, tally) + sizeof a->tally) == 0;
+    return memcmp(a, b, offsetof(bayboard, books) + sizeof a->books) == 0;
 }
 
 /* Expects a refusal, or ACCEPTED, of a test's call on a board, and that a refusal alters nothing but the tally. */
@@ -195,7 +195,7 @@ static void expect_refusal(int number, bayboard board, const test *test, uint32_
 {
     const int32_t *n = test->numbers;
     bayboard unaltered = board;
-    unaltered.tally = tally;
+    unaltered.books.tally = tally;
     expect(refusal(&board, test) == number, call_names[test->call], n[0], n[1], what);
     if (number != ACCEPTED)
         expect(same_boards(&board, &unaltered), call_names[test->call], n[0], n[1], "the board after it");
@@ -210,8 +210,8 @@ static void test_refusals(void)
         expect(test->name == test->refusal, "refusal", test->refusal, test->name, "its name");
         for (int k = 0; k < 3; k++) {
             bayboard board = *test->board;
-            board.tally = tallies[k][0];
-            expect(bayboard_passes(&board), "passes", (int32_t)board.tally, 0, "a board that the calls made");
+            board.books.tally = tallies[k][0];
+            expect(bayboard_passes(&board), "passes", (int32_t)board.books.tally, 0, "a board that the calls made");
             expect_refusal(test->refusal, board, test, tallies[k][test->refusal == 8], "its refusal");
         }
     }
@@ -289,7 +289,7 @@ static const char *break_board(bayboard *b, int way)
     switch (way) {
     case 0: b->jobs = 65; return "65 jobs";
     case 1: b->jobs = SIZE_MAX; return "the greatest number of jobs";
-    case 2: b->tally = 1000001; return "a tally of 1000001";
+    case 2: b->books.tally = 1000001; return "a tally of 1000001";
     case 3: b->lengths[5] = 0; return "a length of 0";
     case 4: b->lengths[5] = 10001; b->latest[5] = 20000; return "a length of 10001";
     case 5: b->earliest[0] = -500001; return "E below the limit";
@@ -325,7 +325,7 @@ static void test_broken_boards(void)
     for (int way = 0; (broken = break_board(&board, way)) != NULL; way++, board = six) {
         expect(!bayboard_passes(&board), "passes", way, 0, broken);
         for (int i = 0; i < TESTS; i++)
-            expect_refusal(0, board, &tests[i], board.tally, broken);
+            expect_refusal(0, board, &tests[i], board.books.tally, broken);
     }
 }
 

@@ -36,7 +36,8 @@ pub fn impossible(board: Board) -> Entered
     ensures { λ r. ⌜ r ≡ paper.refused Refusal.Impossible (paper.counted board) ⌝ }
 {
     let mut counted = board;
-    counted.tally = next_tally(board.tally);
+    let tally = next_tally(board.books.tally);
+    counted.books.tally = tally;
     refused(Refusal::Impossible, counted)
 }
 

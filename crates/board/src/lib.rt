@@ -1,6 +1,7 @@
 // The board of one dock as a struct by value, with the limits that belong to its type, and the refusals of the gate.
 ghost use mathlib.Core.Path.{_≡_};
 ghost use Rattle.board.specs.Paper.Limits.{emptyBoard};
+ghost use Rattle.board.specs.Paper.Parts.{emptyBooks};
 ghost use Rattle.board.specs.Paper.Refusals.{numberOf};
 
 pub mod facts;
@@ -17,6 +18,12 @@ pub struct Board {
     pub marks: [u8; Board::JOBS],
     pub after: [u64; Board::JOBS],
     pub before: [u64; Board::JOBS],
+    pub books: Books,
+}
+
+// What a board keeps beside the arrays: no update and no inference alters it.
+#[repr(C)]
+pub struct Books {
     pub tally: u32,
 }
 
@@ -46,7 +53,7 @@ impl Board {
 
     // A board without jobs whose tally starts at 0.
     pub fn empty() -> Self
-        ensures { λ r. ⌜ r ≡ emptyBoard 0 ⌝ }
+        ensures { λ r. ⌜ r ≡ emptyBoard emptyBooks ⌝ }
     {
         Self {
             jobs: 0,
@@ -56,7 +63,7 @@ impl Board {
             marks: [0; Board::JOBS],
             after: [0; Board::JOBS],
             before: [0; Board::JOBS],
-            tally: 0,
+            books: Books { tally: 0 },
         }
     }
 }

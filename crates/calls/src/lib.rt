@@ -60,6 +60,7 @@ fn conclude(board: Board, stated: Stated, accepted: Answer) -> Entered
     ) {
         return impossible(board);
     }
+    let books = board.books;
     Entered {
         answer: accepted,
         board: Board {
@@ -70,7 +71,7 @@ fn conclude(board: Board, stated: Stated, accepted: Answer) -> Entered
             marks,
             after,
             before,
-            tally: board.tally,
+            books,
         },
     }
 }

@@ -1,6 +1,7 @@
 // Check 0: "the board handed in breaks a limit above, keeps something twice that doesn't agree, or isn't closed over what it
 // shows".
 use board::Board;
+use limits::books_within;
 use limits::within_limits;
 use marks::sets;
 use rules::Found;
@@ -12,7 +13,7 @@ ghost use Rattle.closure.specs.Check as check;
 pub fn passes(b: Board) -> bool
     ensures { λ r. ⌜ r ≡ check.passes b ⌝ }
 {
-    if !within_limits(b) {
+    if !within_limits(b) || !books_within(b.books) {
         return false;
     }
     let sets = sets(b.jobs, &b.marks);

@@ -4,7 +4,7 @@ use mathlib.Core.Bool.{Bool, true, false, _&&_}
 use mathlib.Core.Option.{Option, none, some}
 use Rattle.board.specs.declared.Board.{Board}
 use Rattle.board.specs.Paper.View.{view}
-use Rattle.board.specs.Tests.Limits.{withinLimits}
+use Rattle.board.specs.Tests.Limits.{withinLimits, booksLimits}
 use Rattle.board.specs.Paper.Facts.{Fact}
 use Rattle.closure.specs.Find.{find}
 
@@ -14,4 +14,4 @@ nothingLeft none = true
 nothingLeft (some f) = false
 
 unfoldable pub passes : Board → Bool
-passes b = withinLimits b && nothingLeft (find (view b))
+passes b = withinLimits b && booksLimits (b .books) && nothingLeft (find (view b))

@@ -1,17 +1,17 @@
--- The test of check 0 holds exactly of the boards within the limits that are closed over what they show.
+-- The test of check 0 holds exactly of the boards within the limits, and with books within theirs, that are closed over what they show.
 use mathlib.Core.Path.{_≡_, refl, sym}
 use mathlib.Core.Logic.{_↔_}
-use mathlib.Core.Bool.{true}
+use mathlib.Core.Bool.{true, _&&_}
 use mathlib.Core.Option.{Option, none, some}
-use Prim.Native.Nat.{ℕ, _≤_}
 use Rattle.minutes.specs.Bools.{refuted, and-parts, and-both}
 use Rattle.board.specs.declared.Board.{Board}
+use Rattle.board.specs.declared.Books.{Books}
 use Rattle.board.specs.Paper.View.{view}
 use Rattle.board.specs.Paper.Facts.{Fact}
 use Rattle.board.specs.Inference.Infers.{Obeys}
-use Rattle.board.specs.Paper.Limits.{tallyLimit, Within, emptyBoard}
-use Rattle.board.specs.Tests.Limits.{withinLimits}
-use Rattle.board.specs.Tests.LimitsDecided.{limits-yes, limits-show}
+use Rattle.board.specs.Paper.Limits.{Within, BooksWithin, emptyBoard}
+use Rattle.board.specs.Tests.Limits.{withinLimits, booksLimits}
+use Rattle.board.specs.Tests.LimitsDecided.{limits-yes, limits-show, decides-books}
 use Rattle.board.specs.Tests.Empty.{within-empty, empty-obeys}
 use Rattle.board.specs.Paper.Entries.{shown}
 use Rattle.board.specs.Paper.Closed.{Closed, Least}
@@ -37,30 +37,39 @@ nothing-left b obeys none e = refl
 nothing-left b obeys (some f) e = let (i, unshown) = find-sound (view b) f e in absurd (unshown (obeys f i))
 
 module _ (b : Board) where
-  pub passes-within : passes b ≡ true → Within b
+  parts : passes b ≡ true → (withinLimits b ≡ true) × (booksLimits (b .books) ≡ true) × (nothingLeft (find (view b)) ≡ true)
   unfolding passes
-  passes-within e = limits-yes b (and-parts (withinLimits b) (nothingLeft (find (view b))) e .0)
+  parts e =
+      let (limits, left) = and-parts (withinLimits b && booksLimits (b .books)) (nothingLeft (find (view b))) e in
+      let (own, books) = and-parts (withinLimits b) (booksLimits (b .books)) limits in
+      (own, books, left)
+
+  pub passes-within : passes b ≡ true → Within b
+  passes-within e = limits-yes b (parts e .0)
+
+  pub passes-books : passes b ≡ true → BooksWithin (b .books)
+  passes-books e = decides-books (b .books) .yes (parts e .1)
 
   pub passes-obeys : passes b ≡ true → Obeys (view b)
-  unfolding passes
-  passes-obeys e =
-      find-complete (view b) (lengths b (passes-within e))
-      (settled-none (find (view b)) (and-parts (withinLimits b) (nothingLeft (find (view b))) e .1))
+  passes-obeys e = find-complete (view b) (lengths b (passes-within e)) (settled-none (find (view b)) (parts e .2))
 
   -- such a board is its own closure
   pub closed-already : passes b ≡ true → closure b ≡ some b
   closed-already e = let within = passes-within e in sym (reached-closure b b within (reached-self b within) (passes-obeys e))
 
-  pub obeys-passes : Within b → Obeys (view b) → passes b ≡ true
+  pub obeys-passes : Within b → BooksWithin (b .books) → Obeys (view b) → passes b ≡ true
   unfolding passes
-  obeys-passes within obeys = and-both (withinLimits b) (nothingLeft (find (view b))) (limits-show b within) (nothing-left b obeys (find (view b)) refl)
+  obeys-passes within books obeys =
+      and-both (withinLimits b && booksLimits (b .books)) (nothingLeft (find (view b)))
+      (and-both (withinLimits b) (booksLimits (b .books)) (limits-show b within) (decides-books (b .books) .show books))
+      (nothing-left b obeys (find (view b)) refl)
 
   -- "a board handed in that passes check 0 is the least closed board over what it shows"
   pub passes-least : passes b ≡ true → Least (shown (view b)) b
-  passes-least e = handed-in b (passes-within e) (obeys-rules (view b) (passes-obeys e))
+  passes-least e = handed-in b (passes-within e) (passes-books e) (obeys-rules (view b) (passes-obeys e))
 
   pub passes-closed : (passes b ≡ true) ↔ Closed (shown (view b)) b
-  passes-closed = (λ e. passes-least e .closed, λ c. obeys-passes (c .within) (rules-obey (view b) (c .rules)))
+  passes-closed = (λ e. passes-least e .closed, λ c. obeys-passes (c .within) (c .books) (rules-obey (view b) (c .rules)))
 
-pub empty-passes : (t : ℕ) → t ≤ tallyLimit → passes (emptyBoard t) ≡ true
-empty-passes t h = obeys-passes (emptyBoard t) (within-empty t h) (empty-obeys (view (emptyBoard t)) refl)
+pub empty-passes : (books : Books) → BooksWithin books → passes (emptyBoard books) ≡ true
+empty-passes books h = obeys-passes (emptyBoard books) (within-empty books) h (empty-obeys (view (emptyBoard books)) refl)

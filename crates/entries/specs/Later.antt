@@ -23,7 +23,7 @@ pub record Later (b c : Board) : Type 0 where
   pub above : view b ⊑ view c
 
 reached-later : (b c : Board) → Reached (shown (view b)) c → Later b c
-reached-later b c r = record { passes = obeys-passes c (r .within) (r .obeys); above = r .shows .atLeast }
+reached-later b c r = record { passes = obeys-passes c (r .within) (r .books) (r .obeys); above = r .shows .atLeast }
 
 -- a call leaves a board that shows all that it showed before
 module _ (b : Board) (e : Entry) (p : passes b ≡ true) where
@@ -31,7 +31,7 @@ module _ (b : Board) (e : Entry) (p : passes b ≡ true) where
   later _ (by-table r g) = reached-later b b (reached-shown b p)
   later _ (impossible g i) = reached-later b (counted b) (reached-counted (shown (view b)) b (reached-shown b p))
   later _ (accepted g c r t) =
-      record { passes = obeys-passes c (r .within) (r .obeys); above = with-split (shown (view b)) (view c) e (r .shows .atLeast) .0 }
+      record { passes = obeys-passes c (r .within) (r .books) (r .obeys); above = with-split (shown (view b)) (view c) e (r .shows .atLeast) .0 }
 
   pub call-later : Later b (enter b e .board)
   call-later = later (enter b e) (step (shown (view b)) b e (reached-shown b p))

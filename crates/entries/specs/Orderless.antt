@@ -15,6 +15,7 @@ closed-agree : (es es′ : Entries) → Agree es es′ → (b : Board) → Close
 closed-agree es es′ a b h =
     record {
       within = h .within;
+      books = h .books;
       shows = record { count = h .shows .count ∙ a .jobs; atLeast = agreed es es′ (view b) a (h .shows .atLeast) };
       rules = h .rules;
     }

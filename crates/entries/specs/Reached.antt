@@ -1,4 +1,4 @@
--- A board reached by entries: within its limits, and the least one over them that obeys the rules. Each accepted entry
+-- A board reached by entries: within its limits, with books within theirs, and the least one over them that obeys the rules. Each accepted entry
 -- leads to such a board again, and an entry refused as impossible leaves none that shows it.
 use mathlib.Core.Path.{_≡_, _∙_, subst, subst⁻¹}
 use mathlib.Core.Logic.{_≢_, ⊎-elim}
@@ -13,9 +13,10 @@ use Rattle.board.specs.Paper.View.{Row, View, view}
 use Rattle.board.specs.Paper.Facts.{Fact, is-arc, is-bound, is-valid, is-invalid, Known}
 use Rattle.board.specs.Inference.Infers.{Obeys}
 use Rattle.board.specs.Paper.Entries.{Entries, Admissible, Shows, shown}
-use Rattle.board.specs.Paper.Limits.{jobLimit, Fits, Within}
+use Rattle.board.specs.Paper.Limits.{jobLimit, Fits, Within, BooksWithin}
 use Rattle.board.specs.Order.Leastness.{Below, Impossible}
 use Rattle.board.specs.Order.Laws.{atLeast-up}
+use Rattle.board.specs.Update.Limits.{within-books, within-tally}
 use Rattle.entries.specs.Paper.Entry.{Entry, addition, other, addedRow, stated, addRow, stating, withEntry}
 use Rattle.entries.specs.Made.{ShowsEntry, with-split, with-join, with-jobs}
 use Rattle.entries.specs.Listed.{Agree, agree-sym, agreed}
@@ -23,12 +24,9 @@ use Rattle.entries.specs.Allowed.{KnownAll, Allowed}
 use Rattle.entries.specs.Paper.Enter.{counted}
 use Rattle.entries.specs.Settles.{Settled, SettledTo}
 
--- no limit but its own reads the tally
-within-counted : (b : Board) → Within b → Within (counted b)
-within-counted b h = record { shape = h .shape; limits = h .limits; twice = h .twice; tally = omega arith }
-
 pub record Reached (es : Entries) (b : Board) : Type 0 where
   pub within : Within b
+  pub books : BooksWithin (b .books)
   pub shows : Shows es (view b)
   pub obeys : Obeys (view b)
   pub below : Below es (view b)
@@ -69,6 +67,7 @@ pub reached-agree : (es es′ : Entries) (b : Board) → Agree es es′ → Reac
 reached-agree es es′ b a r =
     record {
       within = r .within;
+      books = r .books;
       shows = record { count = r .shows .count ∙ a .jobs; atLeast = agreed es es′ (view b) a (r .shows .atLeast) };
       obeys = r .obeys;
       below = λ w h ob. r .below w (agreed es′ es w (agree-sym es es′ a) h) ob;
@@ -83,6 +82,7 @@ module _ (es : Entries) (b : Board) (e : Entry) (r : Reached es b) where
   reached-with c s =
       record {
         within = s .more .within;
+        books = subst⁻¹ BooksWithin (s .more .books) (r .books);
         shows =
             record {
               count = s .more .jobs ∙ with-jobs (shown (view b)) es e (r .shows .count);
@@ -105,7 +105,8 @@ module _ (es : Entries) (b : Board) (e : Entry) (r : Reached es b) where
 pub reached-counted : (es : Entries) (b : Board) → Reached es b → Reached es (counted b)
 reached-counted es b r =
     record {
-      within = within-counted b (r .within);
+      within = within-books b _ (r .within);
+      books = within-tally (b .books) _ (r .books) (omega arith);
       shows = r .shows;
       obeys = r .obeys;
       below = r .below;

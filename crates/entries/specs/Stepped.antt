@@ -13,7 +13,7 @@ use Rattle.board.specs.Update.Extension.{above-self}
 use Rattle.board.specs.Inference.Agrees.{obeys-rules}
 use Rattle.board.specs.Inference.LeastClosed.{least-closed}
 use Rattle.closure.specs.Check.{passes}
-use Rattle.closure.specs.Checked.{passes-within, passes-obeys, obeys-passes}
+use Rattle.closure.specs.Checked.{passes-within, passes-books, passes-obeys, obeys-passes}
 use Rattle.entries.specs.declared.Entered.{Entered}
 use Rattle.entries.specs.Paper.Entry.{Entry, withEntry}
 use Rattle.entries.specs.Paper.Gate.{checks, gate}
@@ -29,12 +29,12 @@ Step es b e = Ends b e (Impossible (withEntry es e)) (Reached (withEntry es e))
 
 pub reached-least : (es : Entries) (b : Board) → Reached es b → Least es b
 reached-least es b r =
-    below-least es b (record { within = r .within; shows = r .shows; rules = obeys-rules (view b) (r .obeys) }) (r .below)
+    below-least es b (record { within = r .within; books = r .books; shows = r .shows; rules = obeys-rules (view b) (r .obeys) }) (r .below)
 
 module _ (es : Entries) (b : Board) (e : Entry) (r : Reached es b) where
   settled : gate (checks (b .jobs) e) ≡ none → (o : Option Board) → SettledTo b e o → Step es b e (concluded b (acceptance (b .jobs) e) o)
   settled g none s = impossible g (impossible-with es b e r s)
-  settled g (some c) s = accepted g c (reached-with es b e r c s) (s .more .tally)
+  settled g (some c) s = accepted g c (reached-with es b e r c s) (s .more .books)
 
   decided : (o : Option Refusal) → gate (checks (b .jobs) e) ≡ o → Step es b e (judged b e o)
   decided (some x) g = by-table x g
@@ -42,7 +42,7 @@ module _ (es : Entries) (b : Board) (e : Entry) (r : Reached es b) where
 
   pub step : Step es b e (enter b e)
   unfolding enter
-  step = rw (obeys-passes b (r .within) (r .obeys), enter) (decided (gate (checks (b .jobs) e)) refl)
+  step = rw (obeys-passes b (r .within) (r .books) (r .obeys), enter) (decided (gate (checks (b .jobs) e)) refl)
 
   pub outcome : Outcome es b e (enter b e)
   outcome = ends (enter b e) step
@@ -57,6 +57,7 @@ pub reached-shown : (b : Board) → passes b ≡ true → Reached (shown (view b
 reached-shown b e =
     record {
       within = passes-within b e;
+      books = passes-books b e;
       shows = record { count = refl; atLeast = above-self b (passes-within b e) .above };
       obeys = passes-obeys b e;
       below = below-shown (view b);

@@ -1,5 +1,5 @@
 -- The tally after a sequence of calls: that at its start and one for each call answered 8, stopped at its limit.
-use mathlib.Core.Path.{_≡_, refl}
+use mathlib.Core.Path.{_≡_, refl, ap}
 use mathlib.Core.Bool.{true}
 use mathlib.Core.List.{List, [], _∷_}
 use Prim.Native.Nat.{_≤_, _+_, min}
@@ -11,7 +11,7 @@ use Rattle.board.specs.Paper.Limits.{tallyLimit}
 use Rattle.board.specs.Paper.View.{view}
 use Rattle.board.specs.Paper.Entries.{shown}
 use Rattle.closure.specs.Check.{passes}
-use Rattle.closure.specs.Checked.{passes-within}
+use Rattle.closure.specs.Checked.{passes-books}
 use Rattle.entries.specs.declared.Entered.{Entered}
 use Rattle.entries.specs.Paper.Entry.{Entry, addition, other}
 use Rattle.entries.specs.Paper.Enter.{enter}
@@ -22,17 +22,17 @@ use Rattle.entries.specs.Answered.{by-table-middle}
 use Rattle.entries.specs.Stepped.{enter-checked}
 use Rattle.entries.specs.Later.{call-later}
 
-tallied-once : (b : Board) (e : Entry) (x : Entered) → b .tally ≤ tallyLimit → Outcome (shown (view b)) b e x
-    → x .board .tally ≡ min (b .tally + oneImpossible (replyOf (x .answer))) tallyLimit
+tallied-once : (b : Board) (e : Entry) (x : Entered) → b .books .tally ≤ tallyLimit → Outcome (shown (view b)) b e x
+    → x .board .books .tally ≡ min (b .books .tally + oneImpossible (replyOf (x .answer))) tallyLimit
 tallied-once b e _ l (by-table r g) = rw (ne-eqb (numberOf r) 8 (λ q. omega (arith, by-table-middle (b .jobs) e r g))) (omega arith)
 tallied-once b e _ l (impossible g k) = refl
-tallied-once b (addition x y d m) _ l (accepted g c h t) = omega (arith, t)
-tallied-once b (other s) _ l (accepted g c h t) = omega (arith, t)
+tallied-once b (addition x y d m) _ l (accepted g c h t) = omega (arith, ap (λ k. k .tally) t)
+tallied-once b (other s) _ l (accepted g c h t) = omega (arith, ap (λ k. k .tally) t)
 
-pub tallied : (b : Board) (cs : List Call) → passes b ≡ true → after b cs .tally ≡ min (b .tally + impossibles b cs) tallyLimit
+pub tallied : (b : Board) (cs : List Call) → passes b ≡ true → after b cs .books .tally ≡ min (b .books .tally + impossibles b cs) tallyLimit
 unfolding after impossibles
-tallied b [] p = omega (arith, passes-within b p .tally)
+tallied b [] p = omega (arith, passes-books b p .tally)
 tallied b (c ∷ cs) p =
-    let now = tallied-once b (c .entry) (enter b (c .entry)) (passes-within b p .tally) (enter-checked b (c .entry) p) in
+    let now = tallied-once b (c .entry) (enter b (c .entry)) (passes-books b p .tally) (enter-checked b (c .entry) p) in
     let rest = tallied (enter b (c .entry) .board) cs (call-later b (c .entry) p .passes) in
     omega (arith, now, rest)

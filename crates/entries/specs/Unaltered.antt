@@ -49,6 +49,7 @@ unaltered b s p g holds = ends (enter b (other s)) (enter-checked b (other s) p)
           closed =
               record {
                 within = old .within;
+                books = old .books;
                 shows = record { count = refl; atLeast = with-join (shown (view b)) (view b) (other s) (old .shows .atLeast) holds };
                 rules = old .rules;
               };
@@ -59,7 +60,7 @@ unaltered b s p g holds = ends (enter b (other s)) (enter-checked b (other s) p)
     ends _ (by-table r h) = clash (cc)
     ends _ (impossible h k) = absurd (k b (least .closed))
     ends _ (accepted h c l t) =
-        let same = equal-boards c b (l .closed .within) (passes-within b p) (record { same = least-unique es c b (closed-least es c l) least; tally = t }) in
+        let same = equal-boards c b (l .closed .within) (passes-within b p) (record { alike = least-unique es c b (closed-least es c l) least .alike; books = t }) in
         λ i. record { answer = Answers.Accepted; board = same i }
 
 -- ---- repeated entries

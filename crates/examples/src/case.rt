@@ -14,7 +14,7 @@ pub fn whole() {
     let b = call::cut(b, 1, 0, 85);
     call::row(b, 1);
     let b = call::mark(b, 1, 1);
-    writing::tally(b.tally);
+    writing::tally(b.books.tally);
 }
 
 // Three jobs of 10 minutes in 25: the board accepts each, and the tries find no plan. With 30 minutes for one they do.

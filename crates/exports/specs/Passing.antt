@@ -2,9 +2,10 @@
 -- that passes, refused or not.
 use mathlib.Core.Path.{_≡_}
 use mathlib.Core.Bool.{true}
-use native.Mathlib.Omega.{arith}
 use Rattle.board.specs.declared.Board.{Board}
 use Rattle.board.specs.Paper.Limits.{emptyBoard}
+use Rattle.board.specs.Paper.Parts.{emptyBooks}
+use Rattle.board.specs.Tests.Empty.{within-emptyBooks}
 use Rattle.closure.specs.Check.{passes}
 use Rattle.closure.specs.Checked as checked
 use Rattle.entries.specs.Paper.Entry.{Entry}
@@ -12,8 +13,8 @@ use Rattle.entries.specs.Paper.Enter.{enter}
 use Rattle.entries.specs.Later.{call-later}
 use Rattle.exports.specs.Replies.{replied}
 
-pub empty-passes : passes (emptyBoard 0) ≡ true
-empty-passes = checked.empty-passes 0 (omega arith)
+pub empty-passes : passes (emptyBoard emptyBooks) ≡ true
+empty-passes = checked.empty-passes emptyBooks within-emptyBooks
 
 pub left-passes : (b : Board) (e : Entry) → passes b ≡ true → passes (replied (enter b e) .board) ≡ true
 left-passes b e p = call-later b e p .passes

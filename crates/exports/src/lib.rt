@@ -9,6 +9,7 @@ use board::Board;
 use dock::Dock;
 ghost use mathlib.Core.Path.{_≡_};
 ghost use Rattle.board.specs.Paper.Limits.{emptyBoard};
+ghost use Rattle.board.specs.Paper.Parts.{emptyBooks};
 ghost use Rattle.closure.specs.Check as check;
 ghost use Rattle.entries.specs.Paper.Entry as entry;
 ghost use Rattle.entries.specs.Paper.Enter as paper;
@@ -23,7 +24,7 @@ pub mod unchecked;
 // A board without jobs whose tally starts at 0.
 #[no_mangle]
 pub extern "C" fn bayboard_empty() -> Board
-    ensures { λ r. ⌜ r ≡ emptyBoard 0 ⌝ }
+    ensures { λ r. ⌜ r ≡ emptyBoard emptyBooks ⌝ }
 {
     Board::empty()
 }

@@ -17,7 +17,7 @@ use Rattle.minutes.specs.Bools.{refuted, is-false, same-tests}
 use Rattle.minutes.specs.Linear.{whole}
 use Rattle.board.specs.declared.Board.{Board}
 use Rattle.board.specs.Paper.View.{Row, view, rowOf, arcOf, arcIntoOf, Live, Arc}
-use Rattle.board.specs.Paper.Limits.{jobLimit, tallyLimit, zeroRow, RowLimits, Shape, Within}
+use Rattle.board.specs.Paper.Limits.{jobLimit, zeroRow, RowLimits, Shape, Within}
 use Rattle.board.specs.Paper.Tests.{between, isLength, isTime}
 use Rattle.board.specs.Tests.Limits.{isZero, isZeroRow, fits, withinLimits}
 use Rattle.board.specs.Tests.Decides.{Decides, restated, same-decision, holds, negated, _and_, eq}
@@ -163,7 +163,7 @@ module _ (b : Board) where
       before : (x : ℕ) → arcIntoOf b k x ≡ true → (k < b .jobs) × (getD (b .marks) k 0 ≢ 2) × (x < width)
       before x e = let (i, j, n) = w .limits .arcs x k (sym (w .twice x k) ∙ e) in (j .0, j .1, below (i .0))
 
-  module _ (s : Shape b) (jobs : b .jobs ≤ jobLimit) (tally : b .tally ≤ tallyLimit) where
+  module _ (s : Shape b) (jobs : b .jobs ≤ jobLimit) where
     -- a word with a member is at one of the 64 places
     place : (words : List ℕ) → length words ≡ jobLimit → (i k : ℕ) → bit (getD words i 0) k ≡ true → i < jobLimit
     place words full i k e = go (decLt i jobLimit)
@@ -178,7 +178,6 @@ module _ (b : Board) where
           shape = s;
           limits = record { jobs = jobs; rows = rows; arcs = arcs };
           twice = λ i k. same-tests (arcIntoOf b k i) (arcOf b i k) (out i k) (into i k);
-          tally = tally;
         }
       where
         rows : (k : ℕ) → RowLimits (b .jobs) k (rowOf b k)

@@ -1,6 +1,7 @@
 // The test of "the board handed in breaks a limit above, [or] keeps something twice that doesn't agree".
 use agreement::agree;
 use board::Board;
+use board::Books;
 use board::range::between;
 use board::range::is_length;
 use board::range::is_time;
@@ -99,10 +100,11 @@ fn places_hold<'a>(
     true
 }
 
+// The board's limits, its books aside.
 pub fn within_limits(b: Board) -> bool
     ensures { λ r. ⌜ r ≡ limits.withinLimits b ⌝ }
 {
-    if b.jobs > Board::JOBS || b.tally > Board::TALLY {
+    if b.jobs > Board::JOBS {
         return false;
     }
     places_hold(
@@ -115,4 +117,10 @@ pub fn within_limits(b: Board) -> bool
         &b.before,
     )
         && agree(&b.after, &b.before)
+}
+
+pub fn books_within(books: Books) -> bool
+    ensures { λ r. ⌜ r ≡ limits.booksLimits books ⌝ }
+{
+    books.tally <= Board::TALLY
 }

@@ -48,6 +48,6 @@ fn main() {
         lent: true,
     });
     rows(boards);
-    writing::tally(boards.first.tally);
-    writing::tally(boards.second.tally);
+    writing::tally(boards.first.books.tally);
+    writing::tally(boards.second.books.tally);
 }

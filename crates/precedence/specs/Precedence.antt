@@ -21,6 +21,7 @@ use Rattle.board.specs.Paper.Limits.{IsTime, Within}
 use Rattle.board.specs.Paper.Values.{turned}
 use Rattle.board.specs.Inference.Infers.{Infers}
 use Rattle.board.specs.Tests.Live.{live-show}
+use Rattle.board.specs.Update.Filled.{filled}
 use Rattle.board.specs.Update.Updates.{update, tighten}
 use Rattle.board.specs.Update.Reaches.{Reached, Reaches, reached-self, reaches-then, further}
 use Rattle.energy.specs.Energy.{boundAt, lengthAt, Times, Lengths, Pushes}
@@ -38,28 +39,8 @@ fixedOf b late = b .earliest
 
 -- the board b with other times on side s
 abbrev pub withTimes : Side → Board → List ℤ → Board
-withTimes early b times =
-    record {
-      jobs = b .jobs;
-      lengths = b .lengths;
-      earliest = times;
-      latest = b .latest;
-      marks = b .marks;
-      after = b .after;
-      before = b .before;
-      tally = b .tally;
-    }
-withTimes late b times =
-    record {
-      jobs = b .jobs;
-      lengths = b .lengths;
-      earliest = b .earliest;
-      latest = times;
-      marks = b .marks;
-      after = b .after;
-      before = b .before;
-      tally = b .tally;
-    }
+withTimes early b times = filled b (b .lengths) times (b .latest) (b .marks) (b .after) (b .before)
+withTimes late b times = filled b (b .lengths) (b .earliest) times (b .marks) (b .after) (b .before)
 
 -- On any board with the times `times` on side s of which P holds, inferences lead to the times `times'`.
 abbrev pub Raises : Side → (Board → Type 0) → List ℤ → List ℤ → Type 0

@@ -12,12 +12,14 @@ use lib.Signed.{_<ℤ_}
 use Rattle.words.specs.Bit.{bit}
 use Rattle.minutes.specs.Bools.{clash}
 use Rattle.board.specs.declared.Board.{Board}
+use Rattle.board.specs.declared.Books.{Books}
 use Rattle.board.specs.declared.Refusal.{Refusal}
 use Rattle.board.specs.Inference.LeastClosed.{closed-least}
 use Rattle.board.specs.Paper.Closed.{Closed, Least, Contradiction}
 use Rattle.board.specs.Paper.Entries.{Entries, shown}
 use Rattle.board.specs.Paper.Equality.{Same}
-use Rattle.board.specs.Paper.Limits.{tallyLimit, emptyBoard}
+use Rattle.board.specs.Paper.Limits.{BooksWithin, emptyBoard}
+use Rattle.board.specs.Paper.Parts.{withBooks, withTally}
 use Rattle.board.specs.Paper.Rules.{E, D}
 use Rattle.board.specs.Paper.Schedules.{Placing, Schedule}
 use Rattle.board.specs.Paper.View.{View, Live, Valid, Invalid, Arc, view}
@@ -68,10 +70,12 @@ module _ (demand : Demand1) where
   pub refused-same : (b : Board) (q : Request) (r : ℕ) → refusal b q ≡ some r → Same (boardAfter b q) b
   refused-same b q r e = go (ℕ-discrete r 8)
     where
+      aside : (t : ℕ) → Same (withBooks b (withTally (b .books) t)) b
+      aside t = record { alike = record { jobs = refl; rows = λ k. refl; arcs = λ i k. refl } }
+
       go : Dec (r ≡ 8) → Same (boardAfter b q) b
-      go (yes i) =
-          subst⁻¹ (λ c. Same c b) (demand .oneMore b q (e ∙ ap some i)) (record { jobs = refl; rows = λ k. refl; arcs = λ i k. refl })
-      go (no n) = subst⁻¹ (λ c. Same c b) (demand .kept b q r e n) (record { jobs = refl; rows = λ k. refl; arcs = λ i k. refl })
+      go (yes i) = subst⁻¹ (λ c. Same c b) (demand .oneMore b q (e ∙ ap some i)) (aside _)
+      go (no n) = subst⁻¹ (λ c. Same c b) (demand .kept b q r e n) (aside (b .books .tally))
 
 -- an entry leaves the board that it hands back; the calls that look, with a result or without, alter nothing
 pub entry-leaves : (b : Board) (e : Entry) → boardAfter b (entry e) ≡ enter b e .board
@@ -108,7 +112,7 @@ arcs-read v x y _ (both a h) = record { there = (λ _. inr refl, λ _. a); thenc
 module _ (es : Entries) (b : Board) (demand : Demand2 es b) where
   -- whatever entry is accepted: the least board in the order of boards, the same tally, and the job's number
   pub accepted-least : (e : Entry) → refusal b (entry e) ≡ none
-      → Least (withEntry es e) (enter b e .board) × (enter b e .board .tally ≡ b .tally) × (enter b e .answer ≡ acceptance (b .jobs) e)
+      → Least (withEntry es e) (enter b e .board) × (enter b e .board .books .tally ≡ b .books .tally) × (enter b e .answer ≡ acceptance (b .jobs) e)
   accepted-least e q = (closed-least _ _ (demand .least e q), demand .tally e q, demand .answer e q)
 
   -- no entry is accepted whose closure is a contradiction, and none is refused as impossible where a closed board exists
@@ -164,14 +168,14 @@ turn P b l (x ∷ xs) c ys h =
     (turn P (outcome b x .board) (l ++ kept (replyOf (outcome b x .answer)) (x .entry)) xs c ys (h .1))
 
 -- c is any call of a sequence, xs those before it and ys those after
-module _ (t : ℕ) (xs : List Call) (c : Call) (ys : List Call) (demand : Demand3 t (xs ++ c ∷ ys)) where
-  pub any-answered : Outcome (entries (acceptedBy t xs)) (finalBoard t xs) (c .entry) (outcome (finalBoard t xs) c)
-  any-answered = turn _ (emptyBoard t) [] xs c ys (demand .answers)
+module _ (books : Books) (xs : List Call) (c : Call) (ys : List Call) (demand : Demand3 books (xs ++ c ∷ ys)) where
+  pub any-answered : Outcome (entries (acceptedBy books xs)) (finalBoard books xs) (c .entry) (outcome (finalBoard books xs) c)
+  any-answered = turn _ (emptyBoard books) [] xs c ys (demand .answers)
 
-  pub any-impossible : replyOf (outcome (finalBoard t xs) c .answer) ≡ no-number 8
-      → Contradiction (entries (acceptedBy t xs ++ c .entry ∷ []))
-      × ((p : Placing) → Schedule (entries (acceptedBy t xs ++ c .entry ∷ [])) p → ⊥)
-  any-impossible = turn _ (emptyBoard t) [] xs c ys (demand .impossible)
+  pub any-impossible : replyOf (outcome (finalBoard books xs) c .answer) ≡ no-number 8
+      → Contradiction (entries (acceptedBy books xs ++ c .entry ∷ []))
+      × ((p : Placing) → Schedule (entries (acceptedBy books xs ++ c .entry ∷ [])) p → ⊥)
+  any-impossible = turn _ (emptyBoard books) [] xs c ys (demand .impossible)
 
 -- the planner with any budget within its limits
 module _ (es : Entries) (b : Board) (z : ℤ) (demand : PlanEnds es b z) where
@@ -190,37 +194,37 @@ module _ (es : Entries) (b : Board) (z : ℤ) (demand : PlanEnds es b z) where
     pub scheduled-found : (p : Placing) → Schedule es p → PlanFound es b z
     scheduled-found p s = demand .found enough λ e. demand .none enough .0 e p s
 
-module _ (t : ℕ) (cs : List Call) (demand : Demand3 t cs) where
+module _ (books : Books) (cs : List Call) (demand : Demand3 books cs) where
   -- no call after a sequence is answered 0
-  pub never-zero : Demand1 → (q : Request) → refusal (finalBoard t cs) q ≡ some 0 → ⊥
-  never-zero demand1 q e = demand1 .board (finalBoard t cs) q .0 e (demand .inOrder)
+  pub never-zero : Demand1 → (q : Request) → refusal (finalBoard books cs) q ≡ some 0 → ⊥
+  never-zero demand1 q e = demand1 .board (finalBoard books cs) q .0 e (demand .inOrder)
 
-  pub least-ordered : Least (entries (acceptedBy t cs)) (finalBoard t cs)
+  pub least-ordered : Least (entries (acceptedBy books cs)) (finalBoard books cs)
   least-ordered = closed-least _ _ (demand .least)
 
   -- where what the board shows has no schedule, the entries have none
-  pub shown-unscheduled : ((p : Placing) → Schedule (shown (view (finalBoard t cs))) p → ⊥)
-      → (p : Placing) → Schedule (entries (acceptedBy t cs)) p → ⊥
+  pub shown-unscheduled : ((p : Placing) → Schedule (shown (view (finalBoard books cs))) p → ⊥)
+      → (p : Placing) → Schedule (entries (acceptedBy books cs)) p → ⊥
   shown-unscheduled n p s = n p (demand .nothingLost p s)
 
   -- a valid job has no arcs both ways with a live one, as an arc from a job to itself would follow
-  pub no-circle : let v = view (finalBoard t cs) in (x y : ℕ) → Arc v x y → Arc v y x → Valid v y → Live v x → ⊥
+  pub no-circle : let v = view (finalBoard books cs) in (x y : ℕ) → Arc v x y → Arc v y x → Valid v y → Live v x → ⊥
   no-circle x y xy yx vy lx = demand .inOrder .within .limits .arcs x x (demand .joined x y x xy yx vy lx lx) .2 refl
 
   -- calls of which none is answered 8 leave the tally
-  pub tally-left : t ≤ tallyLimit → impossibles (emptyBoard t) cs ≡ 0 → finalBoard t cs .tally ≡ t
-  tally-left fits n = demand .tally ∙ rw n (omega (arith, fits))
+  pub tally-left : BooksWithin books → impossibles (emptyBoard books) cs ≡ 0 → finalBoard books cs .books .tally ≡ books .tally
+  tally-left fits n = demand .tally ∙ rw n (omega (arith, fits .tally))
 
-  module _ (t′ : ℕ) (fits : t′ ≤ tallyLimit) (cs′ : List Call) (l m : List Entry) (s : Statement) where
+  module _ (books′ : Books) (fits : BooksWithin books′) (cs′ : List Call) (l m : List Entry) (s : Statement) where
     -- an arc, mark or cut may change places with the entry before it
-    pub any-order : (x : Entry) → acceptedBy t cs ≡ l ++ x ∷ other s ∷ m → acceptedBy t′ cs′ ≡ l ++ other s ∷ x ∷ m
-        → Same (finalBoard t cs) (finalBoard t′ cs′)
-    any-order x e e′ = demand .orderless t′ cs′ fits (rw (e, e′) (same-swapped l m x s))
+    pub any-order : (x : Entry) → acceptedBy books cs ≡ l ++ x ∷ other s ∷ m → acceptedBy books′ cs′ ≡ l ++ other s ∷ x ∷ m
+        → Same (finalBoard books cs) (finalBoard books′ cs′)
+    any-order x e e′ = demand .orderless books′ cs′ fits (rw (e, e′) (same-swapped l m x s))
 
     -- one that was made before may be left out
-    pub any-repeat : List·Memᴰ (other s) l → acceptedBy t cs ≡ l ++ other s ∷ m → acceptedBy t′ cs′ ≡ l ++ m
-        → Same (finalBoard t cs) (finalBoard t′ cs′)
-    any-repeat made e e′ = demand .orderless t′ cs′ fits (rw (e, e′) (same-repeated l m s made))
+    pub any-repeat : List·Memᴰ (other s) l → acceptedBy books cs ≡ l ++ other s ∷ m → acceptedBy books′ cs′ ≡ l ++ m
+        → Same (finalBoard books cs) (finalBoard books′ cs′)
+    any-repeat made e e′ = demand .orderless books′ cs′ fits (rw (e, e′) (same-repeated l m s made))
 
 -- ---- all three
 
@@ -229,9 +233,9 @@ module _ (all : Demands) where
   pub handed-least : (b : Board) → InOrder b → (e : Entry) → refusal b (entry e) ≡ none → Least (withEntry (shown (view b)) e) (enter b e .board)
   handed-least b o e q = accepted-least (shown (view b)) b (all .second b o) e q .0
 
-  pub next-least : (t : ℕ) → t ≤ tallyLimit → (cs : List Call) (e : Entry) → refusal (finalBoard t cs) (entry e) ≡ none
-      → Least (withEntry (entries (acceptedBy t cs)) e) (enter (finalBoard t cs) e .board)
-  next-least t fits cs e q = accepted-least _ _ (all .secondAfter t fits cs) e q .0
+  pub next-least : (books : Books) → BooksWithin books → (cs : List Call) (e : Entry) → refusal (finalBoard books cs) (entry e) ≡ none
+      → Least (withEntry (entries (acceptedBy books cs)) e) (enter (finalBoard books cs) e .board)
+  next-least books fits cs e q = accepted-least _ _ (all .secondAfter books fits cs) e q .0
 
   -- any board in order that shows no schedule gets none from the planner, where the budget is enough
   pub handed-none : (b : Board) → InOrder b → (z : ℤ) → IsBudget z → triesTaken (view b) ≤ number z
@@ -239,5 +243,5 @@ module _ (all : Demands) where
   handed-none b o z fits = unscheduled-none (shown (view b)) b z (all .handed b o z fits)
 
 -- the demands hold, so that all of this does: no call after any sequence is answered 0
-pub never-answered-0 : (t : ℕ) → t ≤ tallyLimit → (cs : List Call) (q : Request) → refusal (finalBoard t cs) q ≡ some 0 → ⊥
-never-answered-0 t fits cs = never-zero t cs (demands .third t fits cs) (demands .first)
+pub never-answered-0 : (books : Books) → BooksWithin books → (cs : List Call) (q : Request) → refusal (finalBoard books cs) q ≡ some 0 → ⊥
+never-answered-0 books fits cs = never-zero books cs (demands .third books fits cs) (demands .first)

@@ -16,10 +16,13 @@ use Rattle.board.specs.declared.Board.{Board}
 use Rattle.board.specs.declared.Refusal.the-variants as Refused
 use Rattle.board.specs.Paper.Closed.{Closed, LeastClosed, Contradiction}
 use Rattle.board.specs.Paper.Entries.{Entries}
-use Rattle.board.specs.Paper.Limits.{emptyBoard}
+use Rattle.board.specs.Paper.Limits.{BooksWithin, emptyBoard}
+use Rattle.board.specs.Paper.Parts.{emptyBooks, withTally}
 use Rattle.board.specs.Paper.Rules.{E}
 use Rattle.board.specs.Paper.Schedules.{Placing, Placed, Schedule}
 use Rattle.board.specs.Paper.View.{View, Arc, view, rowOf}
+use Rattle.board.specs.Tests.Empty.{within-emptyBooks}
+use Rattle.board.specs.Update.Limits.{within-tally}
 use Rattle.entries.specs.declared.Answer.the-variants as Answers
 use Rattle.entries.specs.Answered.{answered-impossible}
 use Rattle.entries.specs.Paper.Answers.{shows-row, rowReplyOf, shows-pair, pairReplyOf}
@@ -38,13 +41,16 @@ use Rattle.promises.specs.Paper.Views.{Arcs, no-arc, forth, back, both, 
 use Rattle.promises.specs.Demands.{InOrder, Demand2, PlanEnds, finalBoard, acceptedBy, Demand3, Demands}
 use Rattle.promises.specs.Consequences.{any-order, any-repeat}
 use Rattle.promises.specs.SampleEntries.{job, marked, arrow, cutTo}
-use Rattle.promises.specs.Samples.{day, booked, swapped, repeated, tooLong, apart, crowded, computed, day-facts}
+use Rattle.promises.specs.Samples.{day, booked, swapped, repeated, tooLong, apart, crowded, fullBooks, computed, day-facts}
 
 abbrev dayBoard : Board
-dayBoard = finalBoard 0 day
+dayBoard = finalBoard emptyBooks day
 
 abbrev dayEntries : Entries
-dayEntries = entries (acceptedBy 0 day)
+dayEntries = entries (acceptedBy emptyBooks day)
+
+within-fullBooks : BooksWithin fullBooks
+within-fullBooks = within-tally emptyBooks 1000000 within-emptyBooks (omega arith)
 
 different : (i k : ℕ) → i < k → i ≢ k
 different i k l e = omega (arith, e)
@@ -79,11 +85,11 @@ module _ (demands : Demands) where
       (m .board, m .request, m .sort, m .refused)
 
   -- a board whose tally is above its limit is refused; the board after the day is not
-  pub over-tallied : refusal (emptyBoard 1000001) (row (pos 0)) ≡ some 0
-  over-tallied = demands .first .board (emptyBoard 1000001) (row (pos 0)) .1 λ o. omega (arith, o .within .tally)
+  pub over-tallied : refusal (emptyBoard (withTally emptyBooks 1000001)) (row (pos 0)) ≡ some 0
+  over-tallied = demands .first .board (emptyBoard (withTally emptyBooks 1000001)) (row (pos 0)) .1 λ o. omega (arith, o .books .tally)
 
   day-in-order : InOrder dayBoard
-  day-in-order = demands .third 0 (omega arith) day .inOrder
+  day-in-order = demands .third emptyBooks within-emptyBooks day .inOrder
 
   pub day-handed-on : (q : Request) → refusal dayBoard q ≡ some 0 → ⊥
   day-handed-on q e = demands .first .board dayBoard q .0 e day-in-order
@@ -106,13 +112,13 @@ module _ (demands : Demands) where
   -- ---- demand 2, after the day and of its board handed in
 
   after-day : Demand2 dayEntries dayBoard
-  after-day = demands .secondAfter 0 (omega arith) day
+  after-day = demands .secondAfter emptyBooks within-emptyBooks day
 
   -- the undecided job is marked valid: the least closed board, and the same tally
   pub mark-least : LeastClosed (withEntry dayEntries (marked 3 1)) (enter dayBoard (marked 3 1) .board)
   mark-least = after-day .least (marked 3 1) (day-facts .validated)
 
-  pub mark-tally : enter dayBoard (marked 3 1) .board .tally ≡ 1
+  pub mark-tally : enter dayBoard (marked 3 1) .board .books .tally ≡ 1
   mark-tally = after-day .tally (marked 3 1) (day-facts .validated) ∙ day-facts .tally
 
   -- a fifth job has number 4
@@ -156,11 +162,11 @@ module _ (demands : Demands) where
 
   -- of jobs that lie apart: a gap of 0, a gap above 0, and none for an invalid job
   abbrev apartBoard : Board
-  apartBoard = finalBoard 0 apart
+  apartBoard = finalBoard emptyBooks apart
 
   apart-pair : (x y : ℕ) → x < apartBoard .jobs → y < apartBoard .jobs → x ≢ y
       → PairShows (view apartBoard) x y (pairReplyOf (Looking.pair apartBoard (pos x) (pos y)))
-  apart-pair = demands .secondAfter 0 (omega arith) apart .pairs
+  apart-pair = demands .secondAfter emptyBooks within-emptyBooks apart .pairs
 
   pub gap-zero : (n : ℕ) × (pairReplyOf (Looking.pair apartBoard (pos 0) (pos 1)) ≡ shows-pair n (pos 0))
   gap-zero =
@@ -188,8 +194,8 @@ module _ (demands : Demands) where
 
   -- ---- demand 3
 
-  the-day : Demand3 0 day
-  the-day = demands .third 0 (omega arith) day
+  the-day : Demand3 emptyBooks day
+  the-day = demands .third emptyBooks within-emptyBooks day
 
   -- on every closed board, and in every schedule, job 2 starts at 30 or later
   pub closed-later : (c : Board) → Closed dayEntries c → view c .row 2 .mark ≢ 2 → pos 30 ≤ℤ E (view c) 2
@@ -205,19 +211,19 @@ module _ (demands : Demands) where
       the-day .joined 0 1 2 (day-facts .arcs .0) (day-facts .arcs .1) (day-facts .second) (day-facts .first) (day-facts .third)
 
   -- the phones rang in another order, on a board with a full tally: job 2 has the same E; and one of them rang twice
-  pub day-swapped : rowOf (finalBoard 1000000 swapped) 2 .earliest ≡ pos 30
+  pub day-swapped : rowOf (finalBoard fullBooks swapped) 2 .earliest ≡ pos 30
   day-swapped =
-      let same = any-order 0 day the-day 1000000 (omega arith) swapped booked [] (arc (pos 1) (pos 2)) (arrow 0 1) (computed .accepted) (computed .swapped) in
-      sym (ap (λ r. r .earliest) (same .rows 2)) ∙ day-facts .earliest
+      let same = any-order emptyBooks day the-day fullBooks within-fullBooks swapped booked [] (arc (pos 1) (pos 2)) (arrow 0 1) (computed .accepted) (computed .swapped) in
+      sym (ap (λ r. r .earliest) (same .alike .rows 2)) ∙ day-facts .earliest
 
-  pub day-repeated : rowOf (finalBoard 1000000 repeated) 2 .earliest ≡ pos 30
+  pub day-repeated : rowOf (finalBoard fullBooks repeated) 2 .earliest ≡ pos 30
   day-repeated =
       let same =
-      any-repeat 1000000 repeated (demands .third 1000000 (omega arith) repeated) 1000000 (omega arith) swapped
+      any-repeat fullBooks repeated (demands .third fullBooks within-fullBooks repeated) fullBooks within-fullBooks swapped
       (booked ++ arrow 1 2 ∷ arrow 0 1 ∷ []) [] (arc (pos 1) (pos 2))
       (List·Memᴰ·tail (List·Memᴰ·tail (List·Memᴰ·tail (List·Memᴰ·tail (List·Memᴰ·head refl)))))
       (computed .repeated) (computed .swapped) in
-      ap (λ r. r .earliest) (same .rows 2) ∙ day-swapped
+      ap (λ r. r .earliest) (same .alike .rows 2) ∙ day-swapped
 
   -- two tries are not enough; three are, and the plan that they find is a schedule of the day
   pub two-spent : planReplyOf (Planner.plan dayBoard (pos 2)) ≡ plan-spent 2
@@ -248,13 +254,13 @@ module _ (demands : Demands) where
   handed-spent = demands .handed dayBoard day-in-order (pos 2) (budget 2 (omega arith)) .spent .0
 
   -- of two calls, the second has no closed board and no schedule with the first
-  second-entered : Demand3 0 tooLong
-  second-entered = demands .third 0 (omega arith) tooLong
+  second-entered : Demand3 emptyBooks tooLong
+  second-entered = demands .third emptyBooks within-emptyBooks tooLong
 
   pub second-contradicts : Contradiction (withEntry (entries (job 10 0 100 ∷ [])) (job 10000 0 9999))
   unfolding Each
   second-contradicts =
-      let b = enter (emptyBoard 0) (job 10 0 100) .board in
+      let b = enter (emptyBoard emptyBooks) (job 10 0 100) .board in
       let ends : Outcome (entries (job 10 0 100 ∷ [])) b (job 10000 0 9999) (enter b (job 10000 0 9999)) =
       subst (λ r. Outcome (entries (kept r (job 10 0 100))) b (job 10000 0 9999) (enter b (job 10000 0 9999))) (computed .first) (second-entered .answers .1 .0) in
       answered-impossible b (job 10000 0 9999) _ _ (enter b (job 10000 0 9999)) ends (computed .second) .1
@@ -270,22 +276,22 @@ module _ (demands : Demands) where
       (second-entered .impossible .1 .0 (computed .second))
 
   -- fifteen tries are just enough to see that three jobs of 10 minutes don't fit into 25
-  the-crowd : PlanEnds (entries (acceptedBy 0 crowded)) (finalBoard 0 crowded) (pos 15)
-  the-crowd = demands .third 0 (omega arith) crowded .planner (pos 15) (budget 15 (omega arith))
+  the-crowd : PlanEnds (entries (acceptedBy emptyBooks crowded)) (finalBoard emptyBooks crowded) (pos 15)
+  the-crowd = demands .third emptyBooks within-emptyBooks crowded .planner (pos 15) (budget 15 (omega arith))
 
-  enough : triesTaken (view (finalBoard 0 crowded)) ≤ 15
+  enough : triesTaken (view (finalBoard emptyBooks crowded)) ≤ 15
   enough = subst⁻¹ (λ o. taken o ≤ 15) (computed .none) (omega arith)
 
-  pub crowd-unscheduled : (p : Placing) → Schedule (entries (acceptedBy 0 crowded)) p → ⊥
+  pub crowd-unscheduled : (p : Placing) → Schedule (entries (acceptedBy emptyBooks crowded)) p → ⊥
   crowd-unscheduled =
       the-crowd .none enough .0
-      (demands .secondAfter 0 (omega arith) crowded .plans (pos 15) (budget 15 (omega arith))
-      ∙ ap (ending (view (finalBoard 0 crowded)) 15) (computed .none)
+      (demands .secondAfter emptyBooks within-emptyBooks crowded .plans (pos 15) (budget 15 (omega arith))
+      ∙ ap (ending (view (finalBoard emptyBooks crowded)) 15) (computed .none)
       ∙ ap (λ o. plan-none (taken o)) (sym (computed .none)))
 
-  pub crowd-none : planReplyOf (Planner.plan (finalBoard 0 crowded) (pos 15)) ≡ plan-none 15
+  pub crowd-none : planReplyOf (Planner.plan (finalBoard emptyBooks crowded) (pos 15)) ≡ plan-none 15
   crowd-none = the-crowd .none enough .1 crowd-unscheduled ∙ ap (λ o. plan-none (taken o)) (computed .none)
 
   -- a full tally stays
-  pub tally-full : finalBoard 1000000 day .tally ≡ 1000000
-  tally-full = demands .third 1000000 (omega arith) day .tally ∙ rw (computed .impossibles)
+  pub tally-full : finalBoard fullBooks day .books .tally ≡ 1000000
+  tally-full = demands .third fullBooks within-fullBooks day .tally ∙ rw (computed .impossibles)

@@ -7,9 +7,10 @@ use mathlib.Core.Option.{none}
 use Prim.Native.Nat.{ℕ, _≤_}
 use Rattle.minutes.specs.Bools.{clash}
 use Rattle.board.specs.declared.Board.{Board}
+use Rattle.board.specs.declared.Books.{Books}
 use Rattle.board.specs.Paper.Closed.{LeastClosed}
 use Rattle.board.specs.Paper.Entries.{Entries, shown}
-use Rattle.board.specs.Paper.Limits.{tallyLimit}
+use Rattle.board.specs.Paper.Limits.{BooksWithin}
 use Rattle.board.specs.Paper.View.{view}
 use Rattle.closure.specs.Check.{passes}
 use Rattle.closure.specs.Checked.{passes-closed, obeys-passes}
@@ -32,18 +33,18 @@ use Rattle.promises.specs.ViewLaws.{row-shows, pair-shows}
 -- an accepted entry
 pub record Accepted (es : Entries) (b : Board) (e : Entry) (x : Entered) : Type 0 where
   pub least : LeastClosed (withEntry es e) (x .board)
-  pub tally : x .board .tally ≡ b .tally
+  pub tally : x .board .books .tally ≡ b .books .tally
   pub answer : x .answer ≡ acceptance (b .jobs) e
 
 accepts : (es : Entries) (b : Board) (e : Entry) (x : Entered) → Outcome es b e x → entryRefusal (replyOf (x .answer)) ≡ none
     → Accepted es b e x
 accepts es b e _ (by-table r g) q = clash (cc)
 accepts es b e _ (impossible g k) q = clash (cc)
-accepts es b e _ (accepted g c l t) q = record { least = l; tally = t; answer = refl }
+accepts es b e _ (accepted g c l t) q = record { least = l; tally = ap (λ k. k .tally) t; answer = refl }
 
 demand2 : (es : Entries) (b : Board) → Reached es b → Demand2 es b
 demand2 es b r =
-    let p : passes b ≡ true = obeys-passes b (r .within) (r .obeys) in
+    let p : passes b ≡ true = obeys-passes b (r .within) (r .books) (r .obeys) in
     let ends : (e : Entry) → Outcome es b e (enter b e) = λ e. outcome es b e r in
     record {
       least = λ e q. accepts es b e (enter b e) (ends e) q .least;
@@ -60,5 +61,5 @@ demand2 es b r =
 pub demand2-handed : (b : Board) → InOrder b → Demand2 (shown (view b)) b
 demand2-handed b c = demand2 (shown (view b)) b (reached-shown b (passes-closed b .1 c))
 
-pub demand2-after : (t : ℕ) → t ≤ tallyLimit → (cs : List Call) → Demand2 (entries (acceptedBy t cs)) (finalBoard t cs)
-demand2-after t fits cs = demand2 _ _ (held t fits cs .reached)
+pub demand2-after : (books : Books) → BooksWithin books → (cs : List Call) → Demand2 (entries (acceptedBy books cs)) (finalBoard books cs)
+demand2-after books fits cs = demand2 _ _ (held books fits cs .reached)

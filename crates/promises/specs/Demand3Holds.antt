@@ -1,4 +1,4 @@
--- Demand 3 holds of every sequence of calls, from an empty board with any tally within its limit: `demand3`; and its clause on the
+-- Demand 3 holds of every sequence of calls, from an empty board with any books within their limits: `demand3`; and its clause on the
 -- planner of every board handed in: `handed-ends`.
 use mathlib.Core.Path.{_≡_, refl, sym, ap, subst, _∙_}
 use mathlib.Core.Logic.{_↔_}
@@ -10,12 +10,13 @@ use native.Mathlib.Omega.{arith}
 use lib.IntN.{ℤ}
 use Rattle.minutes.specs.Bools.{clash}
 use Rattle.board.specs.declared.Board.{Board}
+use Rattle.board.specs.declared.Books.{Books}
 use Rattle.board.specs.Inference.Agrees.{obeys-rules}
 use Rattle.board.specs.Inference.LeastClosed.{least-closed}
 use Rattle.board.specs.Order.Leastness.{impossible-contradiction}
 use Rattle.board.specs.Paper.Closed.{Least, Contradiction}
 use Rattle.board.specs.Paper.Entries.{Entries, Admissible, shown}
-use Rattle.board.specs.Paper.Limits.{tallyLimit, emptyBoard}
+use Rattle.board.specs.Paper.Limits.{BooksWithin, emptyBoard}
 use Rattle.board.specs.Paper.Rules.{Rules}
 use Rattle.board.specs.Paper.Schedules.{Placing, Schedule}
 use Rattle.board.specs.Paper.View.{View, Live, Valid, Arc, view}
@@ -97,20 +98,20 @@ handed-ends b c =
     let p : passes b ≡ true = passes-closed b .1 c in
     plan-ends (shown (view b)) b (admissible-shown b (c .within)) (passes-least b p) p
 
-pub demand3 : (t : ℕ) → t ≤ tallyLimit → (cs : List Call) → Demand3 t cs
-demand3 t fits cs =
-    let h = held t fits cs in
+pub demand3 : (books : Books) → BooksWithin books → (cs : List Call) → Demand3 books cs
+demand3 books fits cs =
+    let h = held books fits cs in
     let r = h .reached in
     let least = reached-least _ _ r in
-    let p : passes (finalBoard t cs) ≡ true = obeys-passes (finalBoard t cs) (r .within) (r .obeys) in
+    let p : passes (finalBoard books cs) ≡ true = obeys-passes (finalBoard books cs) (r .within) (r .books) (r .obeys) in
     record {
       least = least-closed _ _ least;
-      inOrder = passes-least (finalBoard t cs) p .closed;
+      inOrder = passes-least (finalBoard books cs) p .closed;
       nothingLost = least-keeps _ _ (h .admissible) least;
       joined = join _ (obeys-rules _ (r .obeys));
-      answers = each-held _ (λ b l c k. outcome _ _ (c .entry) (k .reached)) (emptyBoard t) [] cs (held-empty t fits);
-      impossible = each-held _ (λ b l c k. contradicted b l (c .entry) k) (emptyBoard t) [] cs (held-empty t fits);
-      orderless = λ t′ cs′ fits′ same. least-orderless _ _ _ _ same least (reached-least _ _ (held t′ fits′ cs′ .reached));
+      answers = each-held _ (λ b l c h. outcome _ _ (c .entry) (h .reached)) (emptyBoard books) [] cs (held-empty books fits);
+      impossible = each-held _ (λ b l c h. contradicted b l (c .entry) h) (emptyBoard books) [] cs (held-empty books fits);
+      orderless = λ books′ cs′ fits′ same. least-orderless _ _ _ _ same least (reached-least _ _ (held books′ fits′ cs′ .reached));
       planner = plan-ends _ _ (h .admissible) least p;
-      tally = tallied (emptyBoard t) cs (empty-passes t fits);
+      tally = tallied (emptyBoard books) cs (empty-passes books fits);
     }

@@ -6,10 +6,11 @@ use mathlib.Core.Option.{none, some}
 use Prim.Native.Nat.{ℕ, _+_, _<_, _≤_, min}
 use lib.IntN.{ℤ, pos}
 use Rattle.board.specs.declared.Board.{Board}
+use Rattle.board.specs.declared.Books.{Books}
 use Rattle.board.specs.declared.Refusal.{Refusal}
 use Rattle.board.specs.Paper.Refusals.{numberOf}
 use Rattle.board.specs.Paper.View.{Live, Valid, Arc, view}
-use Rattle.board.specs.Paper.Limits.{tallyLimit, emptyBoard}
+use Rattle.board.specs.Paper.Limits.{tallyLimit, BooksWithin, emptyBoard}
 use Rattle.board.specs.Paper.Entries.{Entries, shown}
 use Rattle.board.specs.Paper.Closed.{Closed, LeastClosed, Contradiction}
 use Rattle.board.specs.Paper.Schedules.{Placing, Schedule, Keeps}
@@ -30,7 +31,8 @@ use Rattle.tries.specs.Paper.Planner.{validJobs}
 use Rattle.promises.specs.Paper.Requests.{Request, entry, Sort, sortOf, refusalsOf, checksOf, refusal, boardAfter, Met}
 use Rattle.promises.specs.Paper.Views.{RowShows, PairShows}
 
--- what check 0 asks of a board: its limits kept and nothing kept twice that doesn't agree (`Within`), and closed "over what it shows"
+-- what check 0 asks of a board: its limits kept and nothing kept twice that doesn't agree (`Within`, `BooksWithin`), and closed "over
+-- what it shows"
 abbrev pub InOrder : Board → Type 0
 InOrder b = Closed (shown (view b)) b
 
@@ -57,7 +59,7 @@ pub record Demand1 : Type 0 where
 pub record Demand2 (es : Entries) (b : Board) : Type 0 where
   -- "The board after each accepted entry is the least closed board of the paper"; its tally stays
   pub least : (e : Entry) → refusal b (entry e) ≡ none → LeastClosed (withEntry es e) (enter b e .board)
-  pub tally : (e : Entry) → refusal b (entry e) ≡ none → enter b e .board .tally ≡ b .tally
+  pub tally : (e : Entry) → refusal b (entry e) ≡ none → enter b e .board .books .tally ≡ b .books .tally
   -- an addition "gives the job's number"
   pub answer : (e : Entry) → refusal b (entry e) ≡ none → enter b e .answer ≡ acceptance (b .jobs) e
   -- "an entry that passes the earlier checks is refused as impossible exactly when that closure is a contradiction"
@@ -86,48 +88,48 @@ pub record PlanEnds (es : Entries) (b : Board) (z : ℤ) : Type 0 where
   -- "and otherwise gives the plan of those tries, which is one of their schedules"
   pub found : triesTaken (view b) ≤ number z → (planReplyOf (Planner.plan b z) ≡ plan-none (triesTaken (view b)) → ⊥) → PlanFound es b z
 
--- the board after the calls, from an empty board with tally t
-abbrev pub finalBoard : ℕ → List Call → Board
-finalBoard t cs = after (emptyBoard t) cs
+-- the board after the calls, from an empty board with these books
+abbrev pub finalBoard : Books → List Call → Board
+finalBoard books cs = after (emptyBoard books) cs
 
 -- what the calls accepted, in order
-abbrev pub acceptedBy : ℕ → List Call → List Entry
-acceptedBy t cs = accepted (emptyBoard t) cs
+abbrev pub acceptedBy : Books → List Call → List Entry
+acceptedBy books cs = accepted (emptyBoard books) cs
 
 -- "For every sequence of additions, arcs, marks and cuts, refused ones included, from an empty board", of any length, in either
 -- manner and with any numbers: one claim over the whole sequence.
-pub record Demand3 (t : ℕ) (cs : List Call) : Type 1 where
+pub record Demand3 (books : Books) (cs : List Call) : Type 1 where
   -- "after it, the board is the paper's least closed one over all accepted entries", and in order
-  pub least : LeastClosed (entries (acceptedBy t cs)) (finalBoard t cs)
-  pub inOrder : InOrder (finalBoard t cs)
+  pub least : LeastClosed (entries (acceptedBy books cs)) (finalBoard books cs)
+  pub inOrder : InOrder (finalBoard books cs)
   -- "no schedule is lost": "every schedule of these keeps the shown windows, arcs and marks"
-  pub nothingLost : (p : Placing) → Schedule (entries (acceptedBy t cs)) p → Keeps (view (finalBoard t cs)) p
+  pub nothingLost : (p : Placing) → Schedule (entries (acceptedBy books cs)) p → Keeps (view (finalBoard books cs)) p
   -- "Arcs A to B and B to C with B valid, A and C live, show A to C."
-  pub joined : let v = view (finalBoard t cs) in (a b c : ℕ) → Arc v a b → Arc v b c → Valid v b → Live v a → Live v c → Arc v a c
+  pub joined : let v = view (finalBoard books cs) in (a b c : ℕ) → Arc v a b → Arc v b c → Valid v b → Live v a → Live v c → Arc v a c
   -- "An entry is accepted when its call gives no refusal; whether it gives one, and which, is just as the checks of the table say":
   -- each call, and the board after it, in its turn
-  pub answers : Each (λ b before c. Outcome (entries before) b (c .entry) (outcome b c)) (emptyBoard t) [] cs
+  pub answers : Each (λ b before c. Outcome (entries before) b (c .entry) (outcome b c)) (emptyBoard books) [] cs
   -- "Each entry refused as impossible has no schedule together with those accepted before it", and no closed board either
   pub impossible :
       Each
       (λ b before c. replyOf (outcome b c .answer) ≡ no-number 8
       → Contradiction (entries (before ++ c .entry ∷ [])) × ((p : Placing) → Schedule (entries (before ++ c .entry ∷ [])) p → ⊥))
-      (emptyBoard t) [] cs
+      (emptyBoard books) [] cs
   -- "Any two such sequences that accepted the same jobs in the same order and the same set of other entries end in equal boards,
   -- tally aside."
-  pub orderless : (t′ : ℕ) (cs′ : List Call) → t′ ≤ tallyLimit → SameEntries (acceptedBy t cs) (acceptedBy t′ cs′)
-      → Same (finalBoard t cs) (finalBoard t′ cs′)
+  pub orderless : (books′ : Books) (cs′ : List Call) → BooksWithin books′ → SameEntries (acceptedBy books cs) (acceptedBy books′ cs′)
+      → Same (finalBoard books cs) (finalBoard books′ cs′)
   -- "And after every such sequence the planner, with any budget within its limits"
-  pub planner : (z : ℤ) → IsBudget z → PlanEnds (entries (acceptedBy t cs)) (finalBoard t cs) z
+  pub planner : (z : ℤ) → IsBudget z → PlanEnds (entries (acceptedBy books cs)) (finalBoard books cs) z
   -- "The board carries a tally of calls answered 8. It [..] stops at 1000000."
-  pub tally : finalBoard t cs .tally ≡ min (t + impossibles (emptyBoard t) cs) tallyLimit
+  pub tally : finalBoard books cs .books .tally ≡ min (books .tally + impossibles (emptyBoard books) cs) tallyLimit
 
 -- All three: of every call on every board; of every board handed in that is in order, and of the board after every sequence; and of
 -- every sequence.
 pub record Demands : Type 1 where
   pub first : Demand1
   pub second : (b : Board) → InOrder b → Demand2 (shown (view b)) b
-  pub secondAfter : (t : ℕ) → t ≤ tallyLimit → (cs : List Call) → Demand2 (entries (acceptedBy t cs)) (finalBoard t cs)
-  pub third : (t : ℕ) → t ≤ tallyLimit → (cs : List Call) → Demand3 t cs
+  pub secondAfter : (books : Books) → BooksWithin books → (cs : List Call) → Demand2 (entries (acceptedBy books cs)) (finalBoard books cs)
+  pub third : (books : Books) → BooksWithin books → (cs : List Call) → Demand3 books cs
   -- the planner's clause of the third, of every board handed in
   pub handed : (b : Board) → InOrder b → (z : ℤ) → IsBudget z → PlanEnds (shown (view b)) b z

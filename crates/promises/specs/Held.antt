@@ -1,11 +1,11 @@
 -- The board after any sequence of calls from an empty board is reached by what they accepted.
 use mathlib.Core.Path.{refl}
 use mathlib.Core.List.{List, [], List·Memᴰ·not-nil}
-use Prim.Native.Nat.{ℕ, _≤_}
 use native.Mathlib.Omega.{arith}
+use Rattle.board.specs.declared.Books.{Books}
 use Rattle.board.specs.Paper.View.{view}
 use Rattle.board.specs.Paper.Facts.{Fact}
-use Rattle.board.specs.Paper.Limits.{tallyLimit, emptyBoard}
+use Rattle.board.specs.Paper.Limits.{BooksWithin, emptyBoard}
 use Rattle.board.specs.Tests.Empty.{within-empty, empty-obeys, empty-below}
 use Rattle.entries.specs.Paper.Entry.{additions, Stated}
 use Rattle.entries.specs.Paper.Sequence.{Call}
@@ -15,25 +15,26 @@ use Rattle.promises.specs.Demands.{finalBoard, acceptedBy}
 nothing-stated : (f : Fact) → Stated [] f → ⊥
 nothing-stated f s = List·Memᴰ·not-nil (s .made)
 
-module _ (t : ℕ) (fits : t ≤ tallyLimit) where
+module _ (books : Books) (fits : BooksWithin books) where
   -- an empty board is reached by no entries
-  pub held-empty : Held [] (emptyBoard t)
+  pub held-empty : Held [] (emptyBoard books)
   unfolding additions
   held-empty =
       record {
         admissible = record { jobs = omega arith; rows = λ k l. absurd (omega arith); about = λ f s. absurd (nothing-stated f s) };
         reached =
             record {
-              within = within-empty t fits;
+              within = within-empty books;
+              books = fits;
               shows =
                   record {
                     count = refl;
                     atLeast = record { jobs = omega arith; rows = λ k l. absurd (omega arith); facts = λ f s. absurd (nothing-stated f s) };
                   };
-              obeys = empty-obeys (view (emptyBoard t)) refl;
-              below = λ w h ob. empty-below (emptyBoard t) (within-empty t fits) refl w;
+              obeys = empty-obeys (view (emptyBoard books)) refl;
+              below = λ w h ob. empty-below (emptyBoard books) (within-empty books) refl w;
             };
       }
 
-  pub held : (cs : List Call) → Held (acceptedBy t cs) (finalBoard t cs)
-  held cs = played [] (emptyBoard t) cs held-empty
+  pub held : (cs : List Call) → Held (acceptedBy books cs) (finalBoard books cs)
+  held cs = played [] (emptyBoard books) cs held-empty

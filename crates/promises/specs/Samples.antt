@@ -11,7 +11,9 @@ use Rattle.minutes.specs.Linear.{eqZ}
 use Rattle.minutes.specs.Sum.{sum, count}
 use Rattle.board.specs.declared.Board.{Board}
 use Rattle.board.specs.declared.Refusal.the-variants as Refused
+use Rattle.board.specs.declared.Books.{Books}
 use Rattle.board.specs.Paper.Limits.{emptyBoard}
+use Rattle.board.specs.Paper.Parts.{ofParts, emptyBooks, withTally}
 use Rattle.board.specs.Paper.Tests.{live, valid, between, implies}
 use Rattle.board.specs.Paper.Rules.{E, D}
 use Rattle.board.specs.Paper.View.{Live, Valid, Invalid, Arc, view}
@@ -62,16 +64,18 @@ repeated = calls (booked ++ arrow 1 2 ∷ arrow 0 1 ∷ arrow 1 2 ∷ [])
 
 abbrev pub computedDay : Board
 computedDay =
-    record {
-      jobs = 4;
-      lengths = pos 10 ∷ pos 20 ∷ pos 5 ∷ pos 5 ∷ replicate 60 (pos 0);
-      earliest = pos 0 ∷ pos 10 ∷ pos 30 ∷ pos 0 ∷ replicate 60 (pos 0);
-      latest = pos 75 ∷ pos 95 ∷ pos 100 ∷ pos 100 ∷ replicate 60 (pos 0);
-      marks = 1 ∷ 1 ∷ 1 ∷ 0 ∷ replicate 60 0;
-      after = 6 ∷ 4 ∷ replicate 62 0;
-      before = 0 ∷ 1 ∷ 3 ∷ replicate 61 0;
-      tally = 1;
-    }
+    ofParts 4
+    (pos 10 ∷ pos 20 ∷ pos 5 ∷ pos 5 ∷ replicate 60 (pos 0))
+    (pos 0 ∷ pos 10 ∷ pos 30 ∷ pos 0 ∷ replicate 60 (pos 0))
+    (pos 75 ∷ pos 95 ∷ pos 100 ∷ pos 100 ∷ replicate 60 (pos 0))
+    (1 ∷ 1 ∷ 1 ∷ 0 ∷ replicate 60 0)
+    (6 ∷ 4 ∷ replicate 62 0)
+    (0 ∷ 1 ∷ 3 ∷ replicate 61 0)
+    (withTally emptyBooks 1)
+
+-- books with a full tally
+abbrev pub fullBooks : Books
+fullBooks = withTally emptyBooks 1000000
 
 -- a job, and one that is longer than its window (8)
 abbrev pub tooLong : List Call
@@ -90,7 +94,7 @@ crowded = calls (job 10 0 25 ∷ job 10 0 25 ∷ job 10 0 25 ∷ [])
 -- of the board after the day
 pub record DayFacts (b : Board) : Type 0 where
   pub jobs : b .jobs ≡ 4
-  pub tally : b .tally ≡ 1
+  pub tally : b .books .tally ≡ 1
   pub earliest : E (view b) 2 ≡ pos 30
   pub latest : D (view b) 0 ≡ pos 75
   pub first : Live (view b) 0
@@ -118,17 +122,17 @@ pub record ApartFacts (b : Board) : Type 0 where
   pub later : E (view b) 2 ≡ pos 25
 
 pub record Computed : Type 0 where
-  pub board : finalBoard 0 day ≡ computedDay
+  pub board : finalBoard emptyBooks day ≡ computedDay
   pub facts : DayFacts computedDay
-  pub apart : ApartFacts (finalBoard 0 apart)
-  pub accepted : acceptedBy 0 day ≡ booked ++ arrow 0 1 ∷ arrow 1 2 ∷ []
-  pub swapped : acceptedBy 1000000 swapped ≡ booked ++ arrow 1 2 ∷ arrow 0 1 ∷ []
-  pub repeated : acceptedBy 1000000 repeated ≡ (booked ++ arrow 1 2 ∷ arrow 0 1 ∷ []) ++ arrow 1 2 ∷ []
-  pub impossibles : impossibles (emptyBoard 1000000) day ≡ 1
+  pub apart : ApartFacts (finalBoard emptyBooks apart)
+  pub accepted : acceptedBy emptyBooks day ≡ booked ++ arrow 0 1 ∷ arrow 1 2 ∷ []
+  pub swapped : acceptedBy fullBooks swapped ≡ booked ++ arrow 1 2 ∷ arrow 0 1 ∷ []
+  pub repeated : acceptedBy fullBooks repeated ≡ (booked ++ arrow 1 2 ∷ arrow 0 1 ∷ []) ++ arrow 1 2 ∷ []
+  pub impossibles : impossibles (emptyBoard fullBooks) day ≡ 1
   -- of two calls, the first is accepted and the second impossible
-  pub first : replyOf (enter (emptyBoard 0) (job 10 0 100) .answer) ≡ ok-number 0
-  pub second : replyOf (enter (enter (emptyBoard 0) (job 10 0 100) .board) (job 10000 0 9999) .answer) ≡ no-number 8
-  pub none : tries (view (finalBoard 0 crowded)) (validJobs (view (finalBoard 0 crowded))) ≡ Tries.none 15
+  pub first : replyOf (enter (emptyBoard emptyBooks) (job 10 0 100) .answer) ≡ ok-number 0
+  pub second : replyOf (enter (enter (emptyBoard emptyBooks) (job 10 0 100) .board) (job 10000 0 9999) .answer) ≡ no-number 8
+  pub none : tries (view (finalBoard emptyBooks crowded)) (validJobs (view (finalBoard emptyBooks crowded))) ≡ Tries.none 15
 
 pub computed : Computed
 unfolding eqZ bit with without union difference singleton sum all implies between isZero fits isZeroRow full shape holdsJob holdsNothing joinable agrees withinLimits live valid exclude tighten update _andThen_ guard _orElse_ first any beyond tooLate joined pushers pushed push next find close closure nothingLeft passes gate updateAll raw closureWith enter after accepted impossibles count range keep every among add Tries._orElse_ startAfter from search
@@ -173,5 +177,5 @@ computed =
       none = refl;
     }
 
-pub day-facts : DayFacts (finalBoard 0 day)
+pub day-facts : DayFacts (finalBoard emptyBooks day)
 day-facts = subst⁻¹ DayFacts (computed .board) (computed .facts)

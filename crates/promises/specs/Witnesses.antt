@@ -14,10 +14,11 @@ use Rattle.minutes.specs.Sum.{sum, count}
 use Rattle.board.specs.declared.Board.{Board}
 use Rattle.board.specs.declared.Refusal.the-variants as Refused
 use Rattle.board.specs.Paper.Limits.{jobLimit, tallyLimit, emptyBoard}
+use Rattle.board.specs.Paper.Parts.{ofParts, emptyBooks, withTally}
 use Rattle.board.specs.Paper.Tests.{live, valid, between, implies}
 use Rattle.board.specs.Tests.Limits.{all, isZero, fits, isZeroRow, full, shape, holdsJob, holdsNothing, joinable, agrees, withinLimits}
 use Rattle.board.specs.Paper.View.{view}
-use Rattle.board.specs.Tests.Empty.{idle-obeys}
+use Rattle.board.specs.Tests.Empty.{within-emptyBooks, idle-obeys}
 use Rattle.board.specs.Tests.LimitsDecided.{limits-yes}
 use Rattle.board.specs.Update.Updates.{exclude, tighten, update, _andThen_}
 use Rattle.closure.specs.Find.{guard, _orElse_, first, any, beyond, tooLate, joined, pushers, pushed, push, next, find}
@@ -38,25 +39,17 @@ use Rattle.promises.specs.Paper.Requests.{Request, entry, row, pair, pla
 
 abbrev allInvalid : Board
 allInvalid =
-    record {
-      jobs = jobLimit;
-      lengths = replicate jobLimit (pos 0);
-      earliest = replicate jobLimit (pos 0);
-      latest = replicate jobLimit (pos 0);
-      marks = replicate jobLimit 2;
-      after = replicate jobLimit 0;
-      before = replicate jobLimit 0;
-      tally = 0;
-    }
+    let zeros = replicate jobLimit (pos 0) in
+    ofParts jobLimit zeros zeros zeros (replicate jobLimit 2) (replicate jobLimit 0) (replicate jobLimit 0) emptyBooks
 
 -- it passes check 0, since no job on it is live
 full-passes : passes allInvalid ≡ true
 unfolding eqZ bit all implies isZero isZeroRow full shape holdsJob holdsNothing joinable agrees withinLimits live
 full-passes =
-    obeys-passes allInvalid (limits-yes allInvalid refl) (idle-obeys (view allInvalid) λ j (l, m). m (getD-replicate jobLimit j 2 0 l))
+    obeys-passes allInvalid (limits-yes allInvalid refl) within-emptyBooks (idle-obeys (view allInvalid) λ j (l, m). m (getD-replicate jobLimit j 2 0 l))
 
 abbrev overTallied : Board
-overTallied = emptyBoard (suc tallyLimit)
+overTallied = emptyBoard (withTally emptyBooks (suc tallyLimit))
 
 -- ---- the calls
 

@@ -11,6 +11,7 @@ use Rattle.board.specs.declared.Board.{Board}
 use Rattle.board.specs.Paper.Facts.{Fact, Known}
 use Rattle.board.specs.Paper.View as Rows
 use Rattle.board.specs.Paper.Limits.{jobLimit, Fits, Within}
+use Rattle.board.specs.Paper.Parts.{withJobs}
 use Rattle.board.specs.Paper.Values.{factOf}
 use Rattle.board.specs.Update.Filled.{filled, possibly, ArraysWithin, Alters}
 use Rattle.board.specs.Update.Updates.{append, update, _andThen_}
@@ -42,7 +43,7 @@ jobsWith n (One f) = n
 jobsWith n (Two f g) = n
 
 abbrev pub grown : Board → Stated → Board
-grown b s = record { jobs = jobsWith (b .jobs) s; lengths = b .lengths; earliest = b .earliest; latest = b .latest; marks = b .marks; after = b .after; before = b .before; tally = b .tally }
+grown b s = withJobs b (jobsWith (b .jobs) s)
 
 -- there is a place for the row, which is within its limits, and the facts are about jobs of the board
 abbrev pub Admissible : ℕ → Stated → Type 0

@@ -13,6 +13,7 @@ use Rattle.minutes.specs.Linear.{eqZ}
 use Rattle.minutes.specs.Sum.{sum}
 use Rattle.board.specs.declared.Board.{Board}
 use Rattle.board.specs.Paper.Limits.{jobLimit}
+use Rattle.board.specs.Paper.Parts.{ofParts, emptyBooks, withTally}
 use Rattle.board.specs.Paper.Tests.{live, valid, between, implies}
 use Rattle.board.specs.Tests.Limits.{all, isZero, fits, isZeroRow, full, shape, holdsJob, holdsNothing, joinable, agrees, withinLimits}
 use Rattle.board.specs.Update.Updates.{update, _andThen_}
@@ -37,17 +38,12 @@ times = places (pos 0)
 abbrev words : List ℕ → List ℕ
 words = places 0
 
--- number of jobs; lengths, earliest, latest, marks, after, before; tally
-abbrev made : ℕ → List ℤ → List ℤ → List ℤ → List ℕ → List ℕ → List ℕ → ℕ → Board
-made n ls es ds ms fs ps t =
-    record { jobs = n; lengths = ls; earliest = es; latest = ds; marks = ms; after = fs; before = ps; tally = t }
-
 -- a board of one job, and one of two with their arcs
 abbrev one : ℕ → ℤ → ℤ → ℤ → Board
-one m l e d = made 1 (times (l ∷ [])) (times (e ∷ [])) (times (d ∷ [])) (words (m ∷ [])) (words []) (words []) 0
+one m l e d = ofParts 1 (times (l ∷ [])) (times (e ∷ [])) (times (d ∷ [])) (words (m ∷ [])) (words []) (words []) emptyBooks
 
 abbrev two : List ℕ → List ℤ → List ℤ → List ℤ → List ℕ → List ℕ → Board
-two ms ls es ds fs ps = made 2 (times ls) (times es) (times ds) (words ms) (words fs) (words ps) 0
+two ms ls es ds fs ps = ofParts 2 (times ls) (times es) (times ds) (words ms) (words fs) (words ps) emptyBooks
 
 -- Three jobs in the window 0 to 100: job 0 of 10 minutes before job 2 of 5, both valid; and job 1, invalid.
 abbrev lengths : List ℤ
@@ -69,24 +65,24 @@ abbrev before : List ℕ
 before = words (0 ∷ 0 ∷ 1 ∷ [])
 
 abbrev three : ℕ → Board
-three t = made 3 lengths earliest latest marks after before t
+three t = ofParts 3 lengths earliest latest marks after before (withTally emptyBooks t)
 
 -- 64 invalid jobs, of which n count
 abbrev invalid : ℕ → Board
-invalid n = made n (times []) (times []) (times []) (words (replicate jobLimit 2)) (words []) (words []) 0
+invalid n = ofParts n (times []) (times []) (times []) (words (replicate jobLimit 2)) (words []) (words []) emptyBooks
 
 -- the same board with one thing altered
 abbrev withLengths : List ℤ → Board
-withLengths ls = made 3 ls earliest latest marks after before 0
+withLengths ls = ofParts 3 ls earliest latest marks after before emptyBooks
 
 abbrev withWindows : List ℤ → List ℤ → Board
-withWindows es ds = made 3 lengths es ds marks after before 0
+withWindows es ds = ofParts 3 lengths es ds marks after before emptyBooks
 
 abbrev withMarks : List ℕ → Board
-withMarks ms = made 3 lengths earliest latest ms after before 0
+withMarks ms = ofParts 3 lengths earliest latest ms after before emptyBooks
 
 abbrev withArcs : List ℕ → List ℕ → Board
-withArcs fs ps = made 3 lengths earliest latest marks fs ps 0
+withArcs fs ps = ofParts 3 lengths earliest latest marks fs ps emptyBooks
 
 -- ---- the table: boards inside and boards outside
 
@@ -165,14 +161,14 @@ arcs =
 -- three undecided jobs but for a valid one between the others; R1 joins these
 abbrev chain : ℕ → ℕ → Board
 chain f p =
-    made 3
+    ofParts 3
     (times (pos 5 ∷ pos 5 ∷ pos 5 ∷ []))
     (times (pos 0 ∷ pos 0 ∷ pos 5 ∷ []))
     (times (pos 95 ∷ pos 100 ∷ pos 100 ∷ []))
     (words (0 ∷ 1 ∷ 0 ∷ []))
     (words (f ∷ 4 ∷ []))
     (words (0 ∷ 1 ∷ p ∷ []))
-    0
+    emptyBooks
 
 abbrev bothWays : ℕ → ℕ → Board
 bothWays m n = two (m ∷ n ∷ []) (pos 5 ∷ pos 5 ∷ []) (pos 0 ∷ pos 0 ∷ []) (pos 100 ∷ pos 100 ∷ []) (2 ∷ 1 ∷ []) (2 ∷ 1 ∷ [])
@@ -205,7 +201,7 @@ decided l = every passes (l .inside) && every (λ b. not (passes b)) (l .outside
 abbrev counts : ℕ → ℕ → ℕ → Bool
 counts t r u =
     let e = enter (three t) (marked 1 1) in
-    gives (entryRefusal (replyOf (e .answer))) (some r) && eqb (e .board .tally) u
+    gives (entryRefusal (replyOf (e .answer))) (some r) && eqb (e .board .books .tally) u
 
 limits-decided : (every decided (sizes ++ rows ++ blanks ++ arcs ++ closed) && counts 999999 8 1000000 && counts 1000000 8 1000000 && counts 1000001 0 1000001) ≡ true
 unfolding eqZ bit sum all implies between isZero fits isZeroRow full shape holdsJob holdsNothing joinable agrees withinLimits live valid update _andThen_ guard _orElse_ first any beyond tooLate joined pushers pushed push next find nothingLeft passes gate updateAll raw closureWith enter

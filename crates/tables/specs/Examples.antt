@@ -13,6 +13,7 @@ use Rattle.minutes.specs.Linear.{eqZ}
 use Rattle.minutes.specs.Sum.{sum, count}
 use Rattle.board.specs.declared.Board.{Board}
 use Rattle.board.specs.Paper.Limits.{emptyBoard}
+use Rattle.board.specs.Paper.Parts.{emptyBooks}
 use Rattle.board.specs.Paper.Tests.{implies, between, live, valid}
 use Rattle.board.specs.Tests.Limits.{all, isZero, fits, isZeroRow, full, shape, holdsJob, holdsNothing, joinable, agrees, withinLimits}
 use Rattle.board.specs.Paper.Schedules.{Placing}
@@ -106,7 +107,7 @@ true-from b (markIs j m ∷ ls) = eqb (rowOf b j .mark) m && true-from b ls
 true-from b (pairIs x y p ∷ ls) = gives (arcsOf (pairReplyOf (pair b (pos x) (pos y)))) (some p) && true-from b ls
 true-from b (gapIs x y g ∷ ls) = gapOf (pairReplyOf (pair b (pos x) (pos y))) g && true-from b ls
 true-from b (rowIs j m e d p q ∷ ls) = rowGives (rowReplyOf (row b (pos j))) m e d p q && true-from b ls
-true-from b (tallyIs n ∷ ls) = eqb (b .tally) n && true-from b ls
+true-from b (tallyIs n ∷ ls) = eqb (b .books .tally) n && true-from b ls
 true-from b (planFinds z t js ∷ ls) = foundIs (planReplyOf (plan b (pos z))) (b .jobs) t js && true-from b ls
 true-from b (planFails z t ∷ ls) = noneIs (planReplyOf (plan b (pos z))) t && true-from b ls
 true-from b (planSpends z ∷ ls) = spentIs (planReplyOf (plan b (pos z))) z && true-from b ls
@@ -114,7 +115,7 @@ true-from b (planRefuses n z ∷ ls) = gives (planRefusal (planReplyOf (plan b z
 
 abbrev pub all-true : List (List Line) → Bool
 all-true [] = true
-all-true (x ∷ xs) = true-from (emptyBoard 0) x && all-true xs
+all-true (x ∷ xs) = true-from (emptyBoard emptyBooks) x && all-true xs
 
 abbrev pub M1 : List Line
 M1 = refuses 4 (job 0 0 100) ∷ []

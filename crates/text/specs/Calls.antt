@@ -7,6 +7,7 @@ use lib.Dec.{leb}
 use lib.ListN.{length}
 use Rattle.board.specs.declared.Board.{Board}
 use Rattle.board.specs.Paper.Limits.{emptyBoard}
+use Rattle.board.specs.Paper.Parts.{emptyBooks}
 use Rattle.entries.specs.Paper.Entry.{Entry}
 use Rattle.entries.specs.Paper.Values.{entryOf}
 use Rattle.entries.specs.Paper.Sequence.{byValue, Call, after}
@@ -52,11 +53,11 @@ serve-after b (unended l ∷ ls) = serve-after b ls
 abbrev pub textCalls : List ℕ → List Call
 textCalls t = cond (leb (length t) loadLimit) (callsOf (linesOf t)) []
 
-pub text-after : (t : List ℕ) → answer t .board ≡ after (emptyBoard 0) (textCalls t)
+pub text-after : (t : List ℕ) → answer t .board ≡ after (emptyBoard emptyBooks) (textCalls t)
 unfolding answer after
 text-after t = go (leb (length t) loadLimit) refl
   where
     go : (x : Bool) → leb (length t) loadLimit ≡ x
-        → answer t .board ≡ after (emptyBoard 0) (cond (leb (length t) loadLimit) (callsOf (linesOf t)) [])
-    go true e = rw e (serve-after (emptyBoard 0) (linesOf t))
+        → answer t .board ≡ after (emptyBoard emptyBooks) (cond (leb (length t) loadLimit) (callsOf (linesOf t)) [])
+    go true e = rw e (serve-after (emptyBoard emptyBooks) (linesOf t))
     go false e = rw e

@@ -53,7 +53,7 @@ module _ {o p : List ℕ} {i j n : ℕ} {a : Board} (b : Board) (f : Form) where
     unfolding carriedOut
     plan-gives is fx said w = rw (is, same .1) (rw (simp (toZ-ofZ, fx) at said) at w, same .0)
 
-    pub tally-gives : f ≡ Tally → Written o i p k (tallyText (b .tally)) n → Gives o i p j n a (carriedOut b f)
+    pub tally-gives : f ≡ Tally → Written o i p k (tallyText (b .books .tally)) n → Gives o i p j n a (carriedOut b f)
     unfolding carriedOut
     tally-gives is w = rw (is, same .1) (w, same .0)
 

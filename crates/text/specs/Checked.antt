@@ -13,6 +13,8 @@ use Rattle.minutes.specs.Bools.{clash}
 use Rattle.board.specs.declared.Board.{Board}
 use Rattle.board.specs.declared.Refusal.{Refusal}
 use Rattle.board.specs.Paper.Limits.{emptyBoard}
+use Rattle.board.specs.Paper.Parts.{emptyBooks}
+use Rattle.board.specs.Tests.Empty.{within-emptyBooks}
 use Rattle.board.specs.Paper.Refusals.{numberOf}
 use Rattle.board.specs.Paper.View.{View, view}
 use Rattle.board.specs.Paper.Tests.{live}
@@ -154,5 +156,5 @@ unfolding answer refusalIn
 never-zero t = go (leb (length t) loadLimit) refl
   where
     go : (x : Bool) → leb (length t) loadLimit ≡ x → Every NotZero (answer t .replies)
-    go true e = rw (e, answer) (serve-not-zero (emptyBoard 0) (empty-passes 0 (omega arith)) (linesOf t))
+    go true e = rw (e, answer) (serve-not-zero (emptyBoard emptyBooks) (empty-passes emptyBooks within-emptyBooks) (linesOf t))
     go false e = rw (e, answer) (λ q. clash (cc), tt)

@@ -10,7 +10,9 @@ use Rattle.numerals.specs.Written.{Written}
 use Rattle.board.specs.declared.Board.{Board}
 use Rattle.board.specs.declared.Refusal.the-variants as Refused
 use Rattle.board.specs.Paper.Limits.{emptyBoard}
+use Rattle.board.specs.Paper.Parts.{emptyBooks}
 use Rattle.board.specs.Paper.Refusals.{numberOf}
+use Rattle.board.specs.Tests.Empty.{within-emptyBooks}
 use Rattle.closure.specs.Checked.{empty-passes}
 use Rattle.replies.specs.Paper.Replies.{refusalText}
 use Rattle.replies.specs.Room.{longest}
@@ -19,7 +21,7 @@ use Rattle.forms.specs.Paper.Lines.{linesOf}
 use Rattle.text.specs.Paper.Text.{overloaded, serve, loadLimit, answer, output}
 use Rattle.text.specs.Serving.{Continues, Answers}
 
-module _ (t : List ℕ) (b : Board) (empty : b ≡ emptyBoard 0) where
+module _ (t : List ℕ) (b : Board) (empty : b ≡ emptyBoard emptyBooks) where
   overloaded-continues : Continues overloaded (refusalText (numberOf Refused.Load)) b []
   unfolding linesOf serve output
   overloaded-continues = rw empty (record { output = refl; board = refl })
@@ -33,7 +35,7 @@ module _ (t : List ℕ) (b : Board) (empty : b ≡ emptyBoard 0) where
       rw (lt-leb (length t) loadLimit over)
       (record {
         continues = rw (w .text, drop-of-length-le t (le-refl (length t))) overloaded-continues;
-        passes = rw empty (empty-passes 0 (omega arith));
+        passes = rw empty (empty-passes emptyBooks within-emptyBooks);
         read = omega arith;
         written = omega (arith, w .room);
         progress = λ some. some;

@@ -55,7 +55,7 @@ pub fn answer(board: Board, form: Form, out: &mut [u8], at: usize) -> Answered
         Form::Row { job } => looked(board, put_row(out, at, job, row(board, job))),
         Form::Pair { a, b } => looked(board, put_pair(out, at, pair(board, a, b))),
         Form::Plan { budget } => looked(board, put_plan(out, at, plan(board, budget))),
-        Form::Tally => looked(board, put_tally(out, at, board.tally)),
+        Form::Tally => looked(board, put_tally(out, at, board.books.tally)),
         Form::Unknown => looked(board, put_refusal(out, at, Refusal::Form)),
     }
 }

@@ -15,6 +15,14 @@ pub struct Board {
     pub marks: [u8; JOBS],
     pub after: [u64; JOBS],
     pub before: [u64; JOBS],
+    pub books: Books,
+}
+
+/// What a board keeps beside its jobs and their arcs: nothing that follows from an entry alters it.
+#[repr(C)]
+#[derive(Clone, Copy, Debug, PartialEq, Eq)]
+pub struct Books {
+    /// Of entries refused as impossible, up to 1000000.
     pub tally: u32,
 }
 

@@ -76,7 +76,7 @@ unsafe extern "C" {
 }
 
 // The layout that the library has, as in hosts/c/bayboard.h.
-const _: () = assert!(size_of::<Board>() == 1872 && offset_of!(Board, tally) == 1864);
+const _: () = assert!(size_of::<Board>() == 1872 && offset_of!(Board, books.tally) == 1864);
 const _: () = assert!(offset_of!(Board, lengths) == 8 && offset_of!(Board, earliest) == 264);
 const _: () = assert!(offset_of!(Board, latest) == 520 && offset_of!(Board, marks) == 776);
 const _: () = assert!(offset_of!(Board, after) == 840 && offset_of!(Board, before) == 1352);

@@ -25,7 +25,7 @@ mod dock;
 mod ffi;
 
 pub use answers::{members, Arcs, Mark, Pair, Plan, Refusal, Row};
-pub use board::Board;
+pub use board::{Board, Books};
 pub use dock::Dock;
 
 /// "A board holds at most 64 jobs"

@@ -6,4 +6,4 @@ use Rattle.answers.proofs.impossible.Tie as tie
 pub impossible-spec : {M : Type 1} → statement M
 impossible-spec =
     tie.close
-    (tie.spec (λ c κs. search needs) (λ c κs. search needs) (λ c. rw (← c .before .next-tally .ensures) (c .refused .ensures)))
+    (tie.spec (λ c κs. search needs) (λ c κs. search needs) (λ c. rw (← c .before .before .next-tally .ensures) (c .refused .ensures)))

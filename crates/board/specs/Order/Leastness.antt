@@ -5,7 +5,7 @@ use Rattle.board.specs.declared.Board.{Board}
 use Rattle.board.specs.Paper.View.{View, view}
 use Rattle.board.specs.Paper.Rules.{Rules}
 use Rattle.board.specs.Inference.Infers.{Obeys}
-use Rattle.board.specs.Paper.Limits.{Within}
+use Rattle.board.specs.Paper.Limits.{Within, BooksWithin}
 use Rattle.board.specs.Paper.Entries.{Entries, AtLeast, shown, _⊑_}
 use Rattle.board.specs.Paper.Closed.{Closed, Least, Contradiction}
 use Rattle.board.specs.Order.Laws.{⊑-refl}
@@ -30,8 +30,8 @@ pub below-shown : (v : View) → Below (shown v) v
 below-shown v w up obeys = up
 
 -- a board handed in that is within the limits and keeps the rules is the least closed board over what it shows
-pub handed-in : (b : Board) → Within b → Rules (view b) → Least (shown (view b)) b
-handed-in b within rules =
+pub handed-in : (b : Board) → Within b → BooksWithin (b .books) → Rules (view b) → Least (shown (view b)) b
+handed-in b within books rules =
     below-least (shown (view b)) b
-    (record { within = within; shows = record { count = refl; atLeast = ⊑-refl (view b) (within .limits) }; rules = rules })
+    (record { within = within; books = books; shows = record { count = refl; atLeast = ⊑-refl (view b) (within .limits) }; rules = rules })
     (below-shown (view b))

@@ -12,12 +12,15 @@ use Rattle.minutes.specs.Bools.{is-false}
 use Rattle.words.specs.Bit.{bit, setOf}
 use Rattle.words.specs.BitLaws.{bit-zero, bit-ext, bit-setOf}
 use Rattle.board.specs.declared.Board.{Board}
+use Rattle.board.specs.declared.Books.{Books}
+use Rattle.board.specs.Paper.Parts.{ofParts, emptyBooks}
 use Rattle.board.specs.Paper.View.{Row, View, Arc, view, arcOf, arcIntoOf}
-use Rattle.board.specs.Paper.Limits.{jobLimit, tallyLimit, zeroRow, Limited, Shape, Within}
+use Rattle.board.specs.Paper.Limits.{jobLimit, zeroRow, Limited, Shape, Within}
 use Rattle.board.specs.Paper.Entries.{Entries, Shows, _⊑_}
 use Rattle.board.specs.Paper.Closed.{Closed, Least}
 use Rattle.board.specs.Inference.Infers.{Obeys}
 use Rattle.board.specs.Inference.Agrees.{obeys-rules}
+use Rattle.board.specs.Tests.Empty.{within-emptyBooks}
 
 -- ---- lists and words
 
@@ -63,20 +66,18 @@ module _ (a : ℕ → ℕ → Bool) (low : (i k : ℕ) → a i k ≡ true → (i
 unfoldable pub column : {A : Type 0} → View → (Row → A) → List A
 column v f = tabulate jobLimit (λ k. f (v .row k))
 
-unfoldable pub boardOf : View → ℕ → Board
-boardOf v t =
-    record {
-      jobs = v .jobs;
-      lengths = column v (λ r. r .length);
-      earliest = column v (λ r. r .earliest);
-      latest = column v (λ r. r .latest);
-      marks = column v (λ r. r .mark);
-      after = wordsOf (v .arc);
-      before = wordsOf (λ k i. v .arc i k);
-      tally = t;
-    }
+unfoldable pub boardOf : View → Books → Board
+boardOf v books =
+    ofParts (v .jobs)
+    (column v (λ r. r .length))
+    (column v (λ r. r .earliest))
+    (column v (λ r. r .latest))
+    (column v (λ r. r .mark))
+    (wordsOf (v .arc))
+    (wordsOf (λ k i. v .arc i k))
+    books
 
-module _ (v : View) (t : ℕ) (limits : Limited v) where
+module _ (v : View) (books : Books) (limits : Limited v) where
   column-at : {A : Type 0} (f : Row → A) (k : ℕ) → getD (column v f) k (f (zeroRow 0)) ≡ f (v .row k)
   unfolding column
   column-at f k =
@@ -85,15 +86,15 @@ module _ (v : View) (t : ℕ) (limits : Limited v) where
   low : (i k : ℕ) → Arc v i k → (i < jobLimit) × (k < jobLimit)
   low i k a = let (li, lk, ne) = limits .arcs i k a in omega arith
 
-  after-bit : (i k : ℕ) → arcOf (boardOf v t) i k ≡ v .arc i k
+  after-bit : (i k : ℕ) → arcOf (boardOf v books) i k ≡ v .arc i k
   unfolding boardOf
   after-bit = wordsOf-bit (v .arc) low
 
-  before-bit : (i k : ℕ) → arcIntoOf (boardOf v t) k i ≡ v .arc i k
+  before-bit : (i k : ℕ) → arcIntoOf (boardOf v books) k i ≡ v .arc i k
   unfolding boardOf
   before-bit i k = wordsOf-bit (λ y x. v .arc x y) (λ y x a. let (lx, ly) = low x y a in (ly, lx)) k i
 
-  pub boardOf-view : view (boardOf v t) ≡ v
+  pub boardOf-view : view (boardOf v books) ≡ v
   unfolding boardOf
   boardOf-view =
       λ i. record {
@@ -108,7 +109,7 @@ module _ (v : View) (t : ℕ) (limits : Limited v) where
         arc = λ x y. after-bit x y i;
       }
 
-  boardOf-shape : Shape (boardOf v t)
+  boardOf-shape : Shape (boardOf v books)
   unfolding boardOf column wordsOf
   boardOf-shape =
       record {
@@ -120,29 +121,30 @@ module _ (v : View) (t : ℕ) (limits : Limited v) where
         before = length-tabulate _ _;
       }
 
-  pub boardOf-within : t ≤ tallyLimit → Within (boardOf v t)
+  pub boardOf-within : Within (boardOf v books)
   unfolding boardOf
-  boardOf-within fits =
+  boardOf-within =
       record {
         shape = boardOf-shape;
         limits = subst⁻¹ Limited boardOf-view limits;
         twice = λ i k. before-bit i k ∙ sym (after-bit i k);
-        tally = fits;
       }
 
 -- ---- closed boards from views
 
 -- a view within the limits that shows the entries and obeys the rules makes a closed board
-pub closed-board : (es : Entries) (v : View) → Limited v → Shows es v → Obeys v → Closed es (boardOf v 0)
+pub closed-board : (es : Entries) (v : View) → Limited v → Shows es v → Obeys v → Closed es (boardOf v emptyBooks)
+unfolding boardOf
 closed-board es v limits shows obeys =
-    let is = boardOf-view v 0 limits in
+    let is = boardOf-view v emptyBooks limits in
     record {
-      within = boardOf-within v 0 limits (omega arith);
+      within = boardOf-within v emptyBooks limits;
+      books = within-emptyBooks;
       shows = subst⁻¹ (Shows es) is shows;
       rules = obeys-rules _ (subst⁻¹ Obeys is obeys);
     }
 
 -- and then what the least closed board shows is in the view
-pub least-below : (es : Entries) (b : Board) → Least es b → (v : View) → Limited v → Closed es (boardOf v 0) → view b ⊑ v
+pub least-below : (es : Entries) (b : Board) → Least es b → (v : View) → Limited v → Closed es (boardOf v emptyBooks) → view b ⊑ v
 least-below es b least v limits closed =
-    subst (λ w. view b ⊑ w) (boardOf-view v 0 limits) (least .least (boardOf v 0) closed)
+    subst (λ w. view b ⊑ w) (boardOf-view v emptyBooks limits) (least .least (boardOf v emptyBooks) closed)

@@ -13,7 +13,8 @@ use Rattle.minutes.specs.Linear.{whole}
 use Rattle.board.specs.declared.Board.{Board}
 use Rattle.board.specs.Paper.View.{Row, Live, Arc, view, rowOf, arcOf}
 use Rattle.board.specs.Paper.Limits.{Within}
-use Rattle.board.specs.Paper.Equality.{Same, EqualBoards}
+use Rattle.board.specs.Paper.Parts.{ofParts}
+use Rattle.board.specs.Paper.Equality.{Alike, Same, EqualBoards}
 use Rattle.board.specs.Paper.Entries.{Entries, Shown, _⊑_}
 use Rattle.board.specs.Paper.Closed.{Least}
 use Rattle.board.specs.Order.Laws.{live-down, arc-up}
@@ -44,8 +45,8 @@ arc-across b c wb up down i k a =
     let live : (j : ℕ) → Live (view b) j → Live (view c) j = λ j l. live-down (view c) (view b) down j (omega (arith, up .jobs, l .0)) l in
     arc-up (view b) (view c) up i k a (live i li) (live k lk)
 
-pub same-boards : (b c : Board) → Within b → Within c → view b ⊑ view c → view c ⊑ view b → Same b c
-same-boards b c wb wc up down =
+pub alike-boards : (b c : Board) → Within b → Within c → view b ⊑ view c → view c ⊑ view b → Alike b c
+alike-boards b c wb wc up down =
     record {
       jobs = jobs;
       rows = λ k. row k (decLt k (b .jobs)) (ℕ-discrete (rowOf b k .mark) 2);
@@ -65,19 +66,10 @@ same-boards b c wb wc up down =
 
 pub equal-boards : (b c : Board) → Within b → Within c → EqualBoards b c → b ≡ c
 equal-boards b c wb wc e =
-    λ i. record {
-      jobs = e .same .jobs i;
-      lengths = lengths i;
-      earliest = earliest i;
-      latest = latest i;
-      marks = marks i;
-      after = after i;
-      before = before i;
-      tally = e .tally i;
-    }
+    λ i. ofParts (e .alike .jobs i) (lengths i) (earliest i) (latest i) (marks i) (after i) (before i) (e .books i)
   where
     rows : (k : ℕ) → rowOf b k ≡ rowOf c k
-    rows = e .same .rows
+    rows = e .alike .rows
 
     lengths : b .lengths ≡ c .lengths
     lengths = ext-getD (pos 0) _ _ (cc) λ k l i. rows k i .length
@@ -92,13 +84,13 @@ equal-boards b c wb wc e =
     marks = ext-getD 0 _ _ (cc) λ k l i. rows k i .mark
 
     after : b .after ≡ c .after
-    after = ext-getD 0 _ _ (cc) λ k l. bit-ext _ _ (e .same .arcs k)
+    after = ext-getD 0 _ _ (cc) λ k l. bit-ext _ _ (e .alike .arcs k)
 
     before : b .before ≡ c .before
     before =
-        ext-getD 0 _ _ (cc) λ k l. bit-ext _ _ λ j. wb .twice j k ∙ e .same .arcs j k ∙ sym (wc .twice j k)
+        ext-getD 0 _ _ (cc) λ k l. bit-ext _ _ λ j. wb .twice j k ∙ e .alike .arcs j k ∙ sym (wc .twice j k)
 
 -- the least closed board over entries is unique, its tally aside
 pub least-unique : (es : Entries) (b c : Board) → Least es b → Least es c → Same b c
 least-unique es b c lb lc =
-    same-boards b c (lb .closed .within) (lc .closed .within) (lb .least c (lc .closed)) (lc .least b (lb .closed))
+    record { alike = alike-boards b c (lb .closed .within) (lc .closed .within) (lb .least c (lc .closed)) (lc .least b (lb .closed)) }

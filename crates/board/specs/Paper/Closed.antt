@@ -6,13 +6,14 @@ use lib.Signed.{_≤ℤ_}
 use Rattle.board.specs.declared.Board.{Board}
 use Rattle.board.specs.Paper.View.{View, Live, Valid, Arc, view}
 use Rattle.board.specs.Paper.Facts.{is-valid}
-use Rattle.board.specs.Paper.Limits.{Within}
+use Rattle.board.specs.Paper.Limits.{Within, BooksWithin}
 use Rattle.board.specs.Paper.Rules.{Rules, E, D}
 use Rattle.board.specs.Paper.Entries.{Entries, Shows, _⊑_}
 
 -- "A board is closed over the entries when it shows them and also" keeps R1 to R6.
 pub record Closed (es : Entries) (b : Board) : Type 0 where
   pub within : Within b
+  pub books : BooksWithin (b .books)
   pub shows : Shows es (view b)
   pub rules : Rules (view b)
 

@@ -6,6 +6,8 @@ use lib.IntN.{ℤ, pos, negsuc}
 use lib.Signed.{_≤ℤ_}
 use lib.ListN.{length, replicate}
 use Rattle.board.specs.declared.Board.{Board}
+use Rattle.board.specs.declared.Books.{Books}
+use Rattle.board.specs.Paper.Parts.{ofParts}
 use Rattle.board.specs.Paper.View.{Row, View, Live, Arc, view, arcOf, arcIntoOf}
 
 -- "A board holds at most 64 jobs"; the tally "stops at 1000000"
@@ -76,24 +78,25 @@ Shape b =
       before : length (b .before) ≡ jobLimit;
     }
 
--- A board within its limits.
+-- A board within its limits, its books aside.
 pub record Within (b : Board) : Type 0 where
   pub shape : Shape b
   pub limits : Limited (view b)
   -- the arc that is kept twice agrees
   pub twice : (i k : ℕ) → arcIntoOf b k i ≡ arcOf b i k
-  pub tally : b .tally ≤ tallyLimit
+
+-- Books within their limits.
+pub record BooksWithin (books : Books) : Type 0 where
+  pub tally : books .tally ≤ tallyLimit
 
 -- "An empty board has no jobs; its tally may be any within its limit."
-abbrev pub emptyBoard : ℕ → Board
-emptyBoard t =
-    record {
-      jobs = 0;
-      lengths = replicate jobLimit (pos 0);
-      earliest = replicate jobLimit (pos 0);
-      latest = replicate jobLimit (pos 0);
-      marks = replicate jobLimit 0;
-      after = replicate jobLimit 0;
-      before = replicate jobLimit 0;
-      tally = t;
-    }
+abbrev pub emptyBoard : Books → Board
+emptyBoard books =
+    ofParts 0
+    (replicate jobLimit (pos 0))
+    (replicate jobLimit (pos 0))
+    (replicate jobLimit (pos 0))
+    (replicate jobLimit 0)
+    (replicate jobLimit 0)
+    (replicate jobLimit 0)
+    books

@@ -10,6 +10,7 @@ use borrow.Author.Tests.{lt-ltb, le-ltb}
 use Rattle.minutes.specs.Bools.{refuted}
 use Rattle.minutes.specs.Linear.{whole, plus}
 use Rattle.board.specs.declared.Board.{Board}
+use Rattle.board.specs.Paper.Parts.{emptyBooks}
 use Rattle.board.specs.Paper.View.{Live, Arc, view}
 use Rattle.board.specs.Paper.Limits.{Fits, RowLimits, Limited}
 use Rattle.board.specs.Paper.Entries.{Entries, Admissible}
@@ -53,7 +54,7 @@ module _ (es : Entries) (p : Placing) (ok : Admissible es) (h : Schedule es p) w
 
 -- ---- the theorems
 
-pub schedule-closed : (es : Entries) (p : Placing) → Admissible es → Schedule es p → Closed es (boardOf (scheduled es p) 0)
+pub schedule-closed : (es : Entries) (p : Placing) → Admissible es → Schedule es p → Closed es (boardOf (scheduled es p) emptyBooks)
 schedule-closed es p ok h =
     closed-board es (scheduled es p) (scheduled-limited es p ok h) (scheduled-shows es p ok h) (scheduled-obeys es p ok h)
 
@@ -63,4 +64,4 @@ least-keeps es b ok least p h =
     (least-below es b least (scheduled es p) (scheduled-limited es p ok h) (schedule-closed es p ok h))
 
 pub contradiction-unscheduled : (es : Entries) → Admissible es → Contradiction es → (p : Placing) → Schedule es p → ⊥
-contradiction-unscheduled es ok none p h = none (boardOf (scheduled es p) 0) (schedule-closed es p ok h)
+contradiction-unscheduled es ok none p h = none (boardOf (scheduled es p) emptyBooks) (schedule-closed es p ok h)

@@ -1,25 +1,29 @@
--- "An empty board has no jobs; its tally may be any within its limit": the empty board is within its limits, and is the
--- only board within them that has no jobs.
+-- "An empty board has no jobs; its tally may be any within its limit": an empty board is within its limits, whatever its books, and is
+-- the only board within them that has no jobs.
 use mathlib.Core.Path.{_≡_, refl}
-use Prim.Native.Nat.{ℕ, _≤_}
+use Prim.Native.Nat.{ℕ}
 use native.Mathlib.Omega.{arith}
-use borrow.Author.Tests.{le-leb}
 use Rattle.minutes.specs.Linear.{eqZ}
 use Rattle.board.specs.declared.Board.{Board}
+use Rattle.board.specs.declared.Books.{Books}
+use Rattle.board.specs.Paper.Parts.{emptyBooks}
 use Rattle.board.specs.Paper.View.{View, Live, view}
 use Rattle.board.specs.Paper.Facts.{Fact, Holds}
-use Rattle.board.specs.Paper.Limits.{tallyLimit, Within, emptyBoard}
+use Rattle.board.specs.Paper.Limits.{Within, BooksWithin, emptyBoard}
 use Rattle.board.specs.Paper.Entries.{Drawn, drawn, _⊑_}
-use Rattle.board.specs.Order.Unique.{same-boards, equal-boards}
+use Rattle.board.specs.Order.Unique.{alike-boards, equal-boards}
 use Rattle.board.specs.Inference.Infers.{r1, r2, r3, r45, r6, Obeys}
 use Rattle.board.specs.Update.Extension.{above-self}
 use Rattle.board.specs.Paper.Tests.{implies}
 use Rattle.board.specs.Tests.Limits.{all, isZero, isZeroRow, full, shape, holdsNothing, withinLimits}
-use Rattle.board.specs.Tests.LimitsDecided.{limits-yes}
+use Rattle.board.specs.Tests.LimitsDecided.{limits-yes, decides-books}
 
-pub within-empty : (t : ℕ) → t ≤ tallyLimit → Within (emptyBoard t)
+pub within-empty : (books : Books) → Within (emptyBoard books)
 unfolding all implies eqZ isZero isZeroRow full shape holdsNothing withinLimits
-within-empty t h = limits-yes (emptyBoard t) (rw (le-leb t tallyLimit h))
+within-empty books = limits-yes (emptyBoard books) refl
+
+pub within-emptyBooks : BooksWithin emptyBooks
+within-emptyBooks = decides-books emptyBooks .yes refl
 
 -- a view without live jobs infers nothing
 pub idle-obeys : (v : View) → ((j : ℕ) → Live v j → ⊥) → Obeys v
@@ -40,9 +44,9 @@ empty-below b h empty w =
     undrawn : (f : Fact) → Drawn (view b) f → Holds w f
     undrawn _ (drawn i k a) = absurd (omega (arith, above-self b h .above .facts _ (drawn i k a) .0))
 
-pub empty-only : (b : Board) → Within b → b .jobs ≡ 0 → b ≡ emptyBoard (b .tally)
+pub empty-only : (b : Board) → Within b → b .jobs ≡ 0 → b ≡ emptyBoard (b .books)
 empty-only b h empty =
-    let e = emptyBoard (b .tally) in
-    let h′ = within-empty (b .tally) (h .tally) in
-    let same = same-boards b e h h′ (empty-below b h empty (view e)) (empty-below e h′ refl (view b)) in
-    equal-boards b e h h′ (record { same = same; tally = refl })
+    let e = emptyBoard (b .books) in
+    let h′ = within-empty (b .books) in
+    let alike = alike-boards b e h h′ (empty-below b h empty (view e)) (empty-below e h′ refl (view b)) in
+    equal-boards b e h h′ (record { alike = alike; books = refl })

@@ -8,6 +8,7 @@ use lib.IntN.{ℤ, pos}
 use lib.ListN.{length, getD}
 use Rattle.minutes.specs.Linear.{eqZ}
 use Rattle.board.specs.declared.Board.{Board}
+use Rattle.board.specs.declared.Books.{Books}
 use Rattle.board.specs.Paper.View.{Row, view, rowOf, arcOf, arcIntoOf}
 use Rattle.board.specs.Paper.Limits.{jobLimit, tallyLimit}
 use Rattle.board.specs.Paper.Tests.{live, implies, isTime, isLength}
@@ -63,11 +64,15 @@ joinable b i k = live (view b) i && live (view b) k && not (eqb i k)
 unfoldable pub agrees : Board → ℕ → ℕ → Bool
 agrees b i k = implies (arcOf b i k) (joinable b i k) && Bool·beq (arcIntoOf b k i) (arcOf b i k)
 
+-- the limits of a board, its books aside
 unfoldable pub withinLimits : Board → Bool
 withinLimits b =
     shape b
     && leb (b .jobs) jobLimit
-    && leb (b .tally) tallyLimit
     && all (b .jobs) (holdsJob b)
     && all jobLimit (λ k. implies (leb (b .jobs) k) (holdsNothing b k))
     && all (b .jobs) (λ i. all (b .jobs) (agrees b i))
+
+-- the limits of the books
+abbrev pub booksLimits : Books → Bool
+booksLimits books = leb (books .tally) tallyLimit

@@ -15,10 +15,11 @@ use Rattle.words.specs.Bit.{bit}
 use Rattle.words.specs.BitLaws.{bit-high, bit-zero, bits-bound}
 use Rattle.minutes.specs.Linear.{whole}
 use Rattle.board.specs.declared.Board.{Board}
+use Rattle.board.specs.declared.Books.{Books}
 use Rattle.board.specs.Paper.View.{Row, view, rowOf, arcOf, arcIntoOf, Live, Arc}
-use Rattle.board.specs.Paper.Limits.{jobLimit, tallyLimit, IsTime, IsLength, Fits, zeroRow, RowLimits, Shape, Within}
+use Rattle.board.specs.Paper.Limits.{jobLimit, tallyLimit, IsTime, IsLength, Fits, zeroRow, RowLimits, Shape, Within, BooksWithin}
 use Rattle.board.specs.Paper.Tests.{live, between, isTime, isLength}
-use Rattle.board.specs.Tests.Limits.{isZero, fits, isZeroRow, full, shape, holdsJob, holdsNothing, joinable, agrees, withinLimits}
+use Rattle.board.specs.Tests.Limits.{isZero, fits, isZeroRow, full, shape, holdsJob, holdsNothing, joinable, agrees, withinLimits, booksLimits}
 use Rattle.board.specs.Tests.Decides.{Decides, restated, _and_, implied, negated, every, holds, le, lt, eq, same, live-is, at-most}
 
 -- ---- rows
@@ -128,7 +129,6 @@ decides-pair b i k =
 record Tested (b : Board) : Type 0 where
   shape : Shape b
   jobs : b .jobs ≤ jobLimit
-  tally : b .tally ≤ tallyLimit
   job : (k : ℕ) → k < b .jobs → Job b k
   blank : (k : ℕ) → k < jobLimit → b .jobs ≤ k → Blank b k
   pair : (i : ℕ) → i < b .jobs → (k : ℕ) → k < b .jobs → Pair b i k
@@ -139,7 +139,6 @@ decides-tested b =
     restated
     (decides-shape b
     and le (b .jobs) jobLimit
-    and le (b .tally) tallyLimit
     and every (b .jobs) (decides-job b)
     and every jobLimit (λ k. implied (le (b .jobs) k) (decides-blank b k))
     and every (b .jobs) (λ i. every (b .jobs) (decides-pair b i)))
@@ -209,7 +208,6 @@ module _ (b : Board) (t : Tested b) where
             same-tests (arcIntoOf b k i) (arcOf b i k)
             (λ e. let (lk, li) = before k i e in sym (t .pair i li k lk .twice) ∙ e)
             (λ e. let (li, lk) = after i k e in t .pair i li k lk .twice ∙ e);
-        tally = t .tally;
       }
     where
       after : Inside (b .jobs) (b .after)
@@ -236,7 +234,6 @@ within-tested b w =
     record {
       shape = w .shape;
       jobs = w .limits .jobs;
-      tally = w .tally;
       job = λ k l.
           record {
             mark = w .limits .rows k .mark;
@@ -268,3 +265,6 @@ limits-yes b = decides-limits b .yes
 
 pub limits-show : (b : Board) → Within b → withinLimits b ≡ true
 limits-show b = decides-limits b .show
+
+pub decides-books : (books : Books) → Decides (booksLimits books) (BooksWithin books)
+decides-books books = restated (le (books .tally) tallyLimit) (λ h. record { tally = h }) (λ h. h .tally)

@@ -32,7 +32,6 @@ module _ (b : Board) (r : Row) (within : Within b) (free : b .jobs < jobLimit) w
         shape = store-shape b (within .shape) (b .jobs) r;
         limits = record { jobs = free; rows = rows; arcs = arcs };
         twice = within .twice;
-        tally = within .tally;
       }
     where
       rows : (k : ℕ) → RowLimits (suc (b .jobs)) k (rowOf (append b r) k)
@@ -54,7 +53,7 @@ module _ (b : Board) (r : Row) (within : Within b) (free : b .jobs < jobLimit) w
             record {
               within = append-within fits m;
               jobs = refl;
-              tally = refl;
+              books = refl;
               above = record {
                 jobs = omega arith;
                 rows = stored b (within .shape) (b .jobs) r free (λ k s. k < b .jobs → Shown (rowOf b k) s)

@@ -7,7 +7,7 @@ use Rattle.board.specs.Paper.View.{View, view}
 use Rattle.board.specs.Inference.Infers.{Obeys}
 use Rattle.board.specs.Paper.Entries.{_⊑_}
 use Rattle.board.specs.Order.Laws.{⊑-trans}
-use Rattle.board.specs.Order.Unique.{same-boards, equal-boards}
+use Rattle.board.specs.Order.Unique.{alike-boards, equal-boards}
 use Rattle.board.specs.Update.Updates.{_andThen_}
 use Rattle.board.specs.Update.Extension.{Extension, Extends}
 
@@ -32,7 +32,7 @@ module _ (n : ℕ) (P Q R : View → Type 0) (b : Board)
             record {
               within = y .more .within;
               jobs = y .more .jobs ∙ x .more .jobs;
-              tally = y .more .tally ∙ x .more .tally;
+              books = y .more .books ∙ x .more .books;
               above = ⊑-trans (view b) (view c) (view d) (x .more .above) (y .more .above);
             };
         meets = join (view d) (kept (view c) (view d) (y .more .above) (x .meets)) (y .meets);
@@ -52,8 +52,8 @@ module _ (n : ℕ) (P : View → Type 0) (b : Board) (obeys : (w : View) → P w
       let below : (c d : Board) → Extension n P b c → Extension n P b d → view c ⊑ view d =
       λ c d x y. x .least (view d) (y .more .above) (obeys (view d) (y .meets)) (y .meets)
       in
-      let same = same-boards c d (x .more .within) (y .more .within) (below c d x y) (below d c y x) in
-      equal-boards c d (x .more .within) (y .more .within) (record { same = same; tally = x .more .tally ∙ sym (y .more .tally) })
+      let alike = alike-boards c d (x .more .within) (y .more .within) (below c d x y) (below d c y x) in
+      equal-boards c d (x .more .within) (y .more .within) (record { alike = alike; books = x .more .books ∙ sym (y .more .books) })
 
   pub one-outcome : (o p : Option Board) → Extends n P b o → Extends n P b p → o ≡ p
   one-outcome none none x y = refl

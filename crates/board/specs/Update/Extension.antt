@@ -11,11 +11,11 @@ use Rattle.board.specs.Paper.Entries.{Shown, _⊑_}
 use Rattle.board.specs.Order.Laws.{⊑-refl}
 use Rattle.board.specs.Paper.Limits.{Within}
 
--- c is b with more shown: within the limits, with n jobs, the same tally, and above b
+-- c is b with more shown: within the limits, with n jobs, the same books, and above b
 pub record Above (n : ℕ) (b c : Board) : Type 0 where
   pub within : Within c
   pub jobs : c .jobs ≡ n
-  pub tally : c .tally ≡ b .tally
+  pub books : c .books ≡ b .books
   pub above : view b ⊑ view c
 
 -- a board within its limits is above itself
@@ -24,7 +24,7 @@ above-self b h =
     record {
       within = h;
       jobs = refl;
-      tally = refl;
+      books = refl;
       above = ⊑-refl (view b) (h .limits);
     }
 

@@ -6,35 +6,13 @@ use mathlib.Core.Option.{Option, none, some}
 use Prim.Native.Nat.{ℕ}
 use lib.IntN.{ℤ}
 use Rattle.board.specs.declared.Board.{Board}
+use Rattle.board.specs.Paper.Parts.{ofParts, emptyBooks}
 use Rattle.board.specs.Paper.Limits.{Within}
-
--- the board b with other arrays
-abbrev pub filled : Board → List ℤ → List ℤ → List ℤ → List ℕ → List ℕ → List ℕ → Board
-filled b lengths earliest latest marks after before =
-    record {
-      jobs = b .jobs;
-      lengths = lengths;
-      earliest = earliest;
-      latest = latest;
-      marks = marks;
-      after = after;
-      before = before;
-      tally = b .tally;
-    }
+pub use Rattle.board.specs.Paper.Parts.{filled}
 
 -- a board of n jobs by its arrays
 abbrev pub arrayed : ℕ → List ℤ → List ℤ → List ℤ → List ℕ → List ℕ → List ℕ → Board
-arrayed n lengths earliest latest marks after before =
-    record {
-      jobs = n;
-      lengths = lengths;
-      earliest = earliest;
-      latest = latest;
-      marks = marks;
-      after = after;
-      before = before;
-      tally = 0;
-    }
+arrayed n lengths earliest latest marks after before = ofParts n lengths earliest latest marks after before emptyBooks
 
 -- the arrays are those of a board of n jobs that is within its limits
 pub record ArraysWithin (n : ℕ) (lengths earliest latest : List ℤ) (marks after before : List ℕ) : Type 0 where

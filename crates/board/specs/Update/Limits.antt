@@ -1,12 +1,14 @@
--- Each store keeps a board within its limits.
+-- Each store keeps a board within its limits, and so do other books.
 use mathlib.Core.Path.{_≡_, refl}
 use mathlib.Core.Logic.{_≢_}
 use Prim.Native.Nat.{ℕ, _<_, _≤_}
 use native.Mathlib.Omega.{arith}
 use lib.ListN.{length-set, length-map}
 use Rattle.board.specs.declared.Board.{Board}
+use Rattle.board.specs.declared.Books.{Books}
+use Rattle.board.specs.Paper.Parts.{withBooks, withTally}
 use Rattle.board.specs.Paper.View.{Row, Live, Arc, rowOf, view}
-use Rattle.board.specs.Paper.Limits.{jobLimit, Fits, zeroRow, RowLimits, Shape, Within}
+use Rattle.board.specs.Paper.Limits.{jobLimit, tallyLimit, Fits, zeroRow, RowLimits, Shape, Within, BooksWithin}
 use Rattle.board.specs.Update.Updates.{store, link, invalidate}
 use Rattle.board.specs.Update.Stores.{place, stored, linked-twice, linked-arcs, unlinked-twice, unlinked-old}
 
@@ -56,7 +58,6 @@ module _ (b : Board) (within : Within b) where
           shape = store-shape b (within .shape) j r;
           limits = record { jobs = within .limits .jobs; rows = rows; arcs = arcs };
           twice = within .twice;
-          tally = within .tally;
         }
       where
         rows : (k : ℕ) → RowLimits (b .jobs) k (rowOf (store b j r) k)
@@ -89,7 +90,6 @@ module _ (b : Board) (within : Within b) where
           shape = invalidate-shape;
           limits = record { jobs = within .limits .jobs; rows = rows; arcs = arcs };
           twice = unlinked-twice b within j job;
-          tally = within .tally;
         }
       where
         rows : (k : ℕ) → RowLimits (b .jobs) k (rowOf (invalidate b j) k)
@@ -114,7 +114,6 @@ module _ (b : Board) (within : Within b) where
         shape = shape;
         limits = record { jobs = within .limits .jobs; rows = within .limits .rows; arcs = arcs };
         twice = linked-twice b within i k (li .0) (lk .0);
-        tally = within .tally;
       }
     where
       shape : Shape (link b i k)
@@ -131,3 +130,12 @@ module _ (b : Board) (within : Within b) where
       arcs : (x y : ℕ) → Arc (view (link b i k)) x y → Live (view b) x × Live (view b) y × (x ≢ y)
       arcs =
           linked-arcs b within i k (li .0) (lk .0) (λ x y. Live (view b) x × Live (view b) y × (x ≢ y)) (li, lk, ne) (within .limits .arcs)
+
+-- ---- the books
+
+-- the limits of a board don't read its books
+pub within-books : (b : Board) (books : Books) → Within b → Within (withBooks b books)
+within-books b books h = record { shape = h .shape; limits = h .limits; twice = h .twice }
+
+pub within-tally : (books : Books) (tally : ℕ) → BooksWithin books → tally ≤ tallyLimit → BooksWithin (withTally books tally)
+within-tally books tally h fits = record { tally = fits }

@@ -14,6 +14,7 @@ use Rattle.minutes.specs.Bools.{clash}
 use Rattle.words.specs.Bit.{bit, with}
 use Rattle.words.specs.BitLaws.{bit-with, bit-ext}
 use Rattle.board.specs.declared.Board.{Board}
+use Rattle.board.specs.Paper.Parts.{filled}
 use Rattle.board.specs.Paper.View.{Side, Row, bound, rowOf, view, arcOf}
 use Rattle.board.specs.Paper.Facts.{is-arc, is-bound, is-valid, is-invalid}
 use Rattle.board.specs.Paper.Limits.{Within}
@@ -53,16 +54,8 @@ is-live b j job e = rw (e, lt-ltb j (b .jobs) job)
 
 module _ (b : Board) where
   link-again : Within b → (i k : ℕ) → arcOf b i k ≡ true → link b i k ≡ b
-  link-again h i k e = λ x. record {
-    jobs = b .jobs;
-    lengths = b .lengths;
-    earliest = b .earliest;
-    latest = b .latest;
-    marks = b .marks;
-    after = again (b .after) i k e x;
-    before = again (b .before) k i (h .twice i k ∙ e) x;
-    tally = b .tally;
-  }
+  link-again h i k e x =
+      filled b (b .lengths) (b .earliest) (b .latest) (b .marks) (again (b .after) i k e x) (again (b .before) k i (h .twice i k ∙ e) x)
 
   same : (t : Bool) → cond t b b ≡ b
   same true = refl

@@ -46,7 +46,7 @@ module _ (b : Board) (within : Within b) where
       → Extended b f (store b j r)
   rewritten f j r job m fits above holds least =
       record {
-        more = record { within = store-within b within j job r m fits; jobs = refl; tally = refl; above = store-above b within j job r above };
+        more = record { within = store-within b within j job r m fits; jobs = refl; books = refl; above = store-above b within j job r above };
         meets = holds;
         least = λ w up _ h. store-least b within j job r w up (least w up h);
       }
@@ -54,7 +54,7 @@ module _ (b : Board) (within : Within b) where
   linked : (i k : ℕ) → Live (view b) i → Live (view b) k → i ≢ k → Extended b (is-arc i k) (link b i k)
   linked i k li lk ne =
       record {
-        more = record { within = link-within b within i k li lk ne; jobs = refl; tally = refl; above = link-above b within i k (li .0) (lk .0) };
+        more = record { within = link-within b within i k li lk ne; jobs = refl; books = refl; above = link-above b within i k (li .0) (lk .0) };
         meets = (li .0, lk .0, λ _ _. linked-new b within i k (li .0) (lk .0));
         least = λ w up _. link-least b within i k (li .0) (lk .0) w up;
       }
@@ -62,7 +62,7 @@ module _ (b : Board) (within : Within b) where
   invalidated : (j : ℕ) → j < b .jobs → rowOf b j .mark ≢ 1 → Extended b (is-invalid j) (invalidate b j)
   invalidated j job m =
       record {
-        more = record { within = invalidate-within b within j job; jobs = refl; tally = refl; above = invalidate-above b within j job m };
+        more = record { within = invalidate-within b within j job; jobs = refl; books = refl; above = invalidate-above b within j job m };
         meets = invalidate-shows b within j job;
         least = λ w up _. invalidate-least b within j job w up;
       }

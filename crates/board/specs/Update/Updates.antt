@@ -10,6 +10,7 @@ use lib.ListN.{getD, set}
 use lib.Signed.{ltZ}
 use Rattle.words.specs.Bit.{with, without}
 use Rattle.board.specs.declared.Board.{Board}
+use Rattle.board.specs.Paper.Parts.{filled, withJobs}
 use Rattle.board.specs.Paper.View.{Row, Side, early, late, bound, rowOf, view}
 use Rattle.board.specs.Paper.Facts.{Fact, is-arc, is-bound, is-valid, is-invalid}
 use Rattle.board.specs.Paper.Tests.{live}
@@ -19,30 +20,20 @@ use Rattle.board.specs.Paper.Limits.{jobLimit, zeroRow}
 -- row j stored anew
 abbrev pub store : Board → ℕ → Row → Board
 store b j r =
-    record {
-      jobs = b .jobs;
-      lengths = set (b .lengths) j (r .length);
-      earliest = set (b .earliest) j (r .earliest);
-      latest = set (b .latest) j (r .latest);
-      marks = set (b .marks) j (r .mark);
-      after = b .after;
-      before = b .before;
-      tally = b .tally;
-    }
+    filled b
+    (set (b .lengths) j (r .length))
+    (set (b .earliest) j (r .earliest))
+    (set (b .latest) j (r .latest))
+    (set (b .marks) j (r .mark))
+    (b .after)
+    (b .before)
 
 -- an arc i to k, in both words that keep it
 abbrev pub link : Board → ℕ → ℕ → Board
 link b i k =
-    record {
-      jobs = b .jobs;
-      lengths = b .lengths;
-      earliest = b .earliest;
-      latest = b .latest;
-      marks = b .marks;
-      after = set (b .after) i (with (getD (b .after) i 0) k);
-      before = set (b .before) k (with (getD (b .before) k 0) i);
-      tally = b .tally;
-    }
+    filled b (b .lengths) (b .earliest) (b .latest) (b .marks)
+    (set (b .after) i (with (getD (b .after) i 0) k))
+    (set (b .before) k (with (getD (b .before) k 0) i))
 
 -- the words without job j, and no arcs of its own
 abbrev pub isolate : List ℕ → ℕ → List ℕ
@@ -52,16 +43,7 @@ isolate words j = set (map (λ w. without jobLimit w j) words) j 0
 abbrev pub invalidate : Board → ℕ → Board
 invalidate b j =
     let c = store b j (zeroRow 2) in
-    record {
-      jobs = c .jobs;
-      lengths = c .lengths;
-      earliest = c .earliest;
-      latest = c .latest;
-      marks = c .marks;
-      after = isolate (b .after) j;
-      before = isolate (b .before) j;
-      tally = c .tally;
-    }
+    filled c (c .lengths) (c .earliest) (c .latest) (c .marks) (isolate (b .after) j) (isolate (b .before) j)
 
 -- a row with its bound on one side raised to z
 abbrev pub raised : Side → ℤ → Row → Row
@@ -88,18 +70,7 @@ update b (is-invalid j) = exclude b j
 
 -- a job added: its row at the first place without a job
 abbrev pub append : Board → Row → Board
-append b r =
-    let c = store b (b .jobs) r in
-    record {
-      jobs = suc (b .jobs);
-      lengths = c .lengths;
-      earliest = c .earliest;
-      latest = c .latest;
-      marks = c .marks;
-      after = b .after;
-      before = b .before;
-      tally = b .tally;
-    }
+append b r = withJobs (store b (b .jobs) r) (suc (b .jobs))
 
 -- one step and then another, where the first finds a board
 infixl 20 _andThen_

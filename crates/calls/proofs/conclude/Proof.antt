@@ -45,10 +45,10 @@ returns-2 c =
 
 returns-3 : tie.Need-returns-3
 returns-3 c =
-    let tried = c .before in
+    let tried = c .before .before in
     let at = start tried in
     let counted = tried .before .before .before .before .before .before .before .before .before .before .before .before .before .jobs-with .ensures in
-    rw counted (is-possible _ _ _ (tried .attempt .result) _ (tried .attempt .ensures (at .args .t1) refl (within at)) (not-false (tried .attempt .result) (c .if2 .left)))
+    rw counted (is-possible _ _ _ (tried .attempt .result) _ (tried .attempt .ensures (at .args .t1) refl (within at)) (not-false (tried .attempt .result) (c .before .if2 .left)))
 
 pub conclude-spec : {M : Type 1} → statement M
 conclude-spec =

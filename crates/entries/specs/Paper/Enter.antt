@@ -8,6 +8,7 @@ use Rattle.board.specs.declared.Refusal.{Refusal}
 use Rattle.board.specs.declared.Refusal.the-variants as Refused
 use Rattle.board.specs.Paper.Facts.{Fact}
 use Rattle.board.specs.Paper.Limits.{tallyLimit}
+use Rattle.board.specs.Paper.Parts.{withBooks, withTally}
 use Rattle.board.specs.Update.Updates.{update, append, _andThen_}
 use Rattle.closure.specs.Closing.{closure}
 use Rattle.closure.specs.Check.{passes}
@@ -33,17 +34,7 @@ closureWith b e = raw b e andThen closure
 
 -- "The board carries a tally of calls answered 8. It starts at 0 and stops at 1000000."
 abbrev pub counted : Board → Board
-counted b =
-    record {
-      jobs = b .jobs;
-      lengths = b .lengths;
-      earliest = b .earliest;
-      latest = b .latest;
-      marks = b .marks;
-      after = b .after;
-      before = b .before;
-      tally = min (b .tally + 1) tallyLimit;
-    }
+counted b = withBooks b (withTally (b .books) (min (b .books .tally + 1) tallyLimit))
 
 -- acceptance by a board of n jobs; an addition "gives the job's number"
 abbrev pub acceptance : ℕ → Entry → Answer

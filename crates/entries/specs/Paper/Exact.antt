@@ -20,7 +20,7 @@ pub data Ends (b : Board) (e : Entry) (Contradicts : Type 0) (Becomes : Board �
   -- "the closure with this entry is a contradiction"; "number 8 adds one to the tally"
   impossible : gate (checks (b .jobs) e) ≡ none → Contradicts → Ends b e Contradicts Becomes (refused Refused.Impossible (counted b))
   -- the board with the entry
-  accepted : gate (checks (b .jobs) e) ≡ none → (c : Board) → Becomes c → c .tally ≡ b .tally
+  accepted : gate (checks (b .jobs) e) ≡ none → (c : Board) → Becomes c → c .books ≡ b .books
       → Ends b e Contradicts Becomes (record { answer = acceptance (b .jobs) e; board = c })
 
 -- 8 exactly when no closed board exists, and otherwise the least closed board over the entries and this one

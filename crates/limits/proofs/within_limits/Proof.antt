@@ -1,10 +1,8 @@
--- `limits::within_limits` meets its contract: a board whose jobs or tally are too many is not within its limits, and of any
--- other the places and the agreement of the arcs decide. Assumes nothing.
+-- `limits::within_limits` meets its contract: a board with too many jobs is not within its limits, and of any other the places and the
+-- agreement of the arcs decide. Assumes nothing.
 use mathlib.Core.Path.{_≡_}
 use mathlib.Core.Bool.{Bool}
-use mathlib.Core.Logic.{⊎-elim}
 use native.Mathlib.Omega.{arith}
-use borrow.Author.Tests.{ltb-true, ltb-false}
 use borrow.Author.Needs.{needs}
 use Rattle.board.specs.Paper.Limits.{Shape}
 use Rattle.board.specs.Tests.Limits.{withinLimits}
@@ -18,7 +16,7 @@ use Rattle.limits.proofs.within_limits.Tie as tie
 returns : tie.Need-returns
 returns c =
     same-decision
-    (failed λ w. ⊎-elim (λ x. omega (arith, w .limits .jobs)) (λ x. omega (arith, w .tally, ltb-true)) (c .if1 .came))
+    (failed λ w. omega (arith, w .limits .jobs))
     (decides-limits _)
 
 places-hold-requires : tie.Need-places-hold-requires
@@ -29,10 +27,10 @@ agree-requires c κs = search needs
 
 -- where the numbers of the board are in range, the places and the agreement are left to test
 tested : (c : tie.After-b) {t : Bool}
-    → let b = c .before .before .before .args .t1 in
+    → let b = c .before .before .args .t1 in
     Decides t (Held b × Agree (b .after) (b .before)) → t ≡ withinLimits b
 tested c d =
-    let b = c .before .before .before .args .t1 in
+    let b = c .before .before .args .t1 in
     let shape : Shape b =
     record {
       lengths = search needs;
@@ -42,19 +40,19 @@ tested c d =
       after = search needs;
       before = search needs;
     } in
-    limits-tested b shape (omega arith) (omega (arith, ltb-false)) d
+    limits-tested b shape (omega arith) d
 
 returns-2 : tie.Need-returns-2
 returns-2 c =
     let places = c .before .before .before .before .before in
     tested (places .before .before .before .before .before .before .before)
-    (second-asked (c .before .before .before .before .if3 .taken) (places .places-hold .ensures) (c .agree .ensures))
+    (second-asked (c .before .before .before .before .if2 .taken) (places .places-hold .ensures) (c .agree .ensures))
 
 returns-3 : tie.Need-returns-3
 returns-3 c =
     let places = c .before in
     tested (places .before .before .before .before .before .before .before)
-    (first-failed (c .if3 .left) (places .places-hold .ensures))
+    (first-failed (c .if2 .left) (places .places-hold .ensures))
 
 pub within-limits-spec : {M : Type 1} → statement M
 within-limits-spec =

@@ -9,6 +9,7 @@ use Rattle.board.specs.declared.Board.{Board}
 use Rattle.board.specs.declared.Refusal.the-variants as Refused
 use Rattle.board.specs.Paper.Refusals.{numberOf}
 use Rattle.board.specs.Paper.Limits.{emptyBoard}
+use Rattle.board.specs.Paper.Parts.{emptyBooks}
 use Rattle.entries.specs.declared.Entered.{Entered}
 use Rattle.entries.specs.Paper.Enter.{enter}
 use Rattle.entries.specs.Paper.Looking.{row, pair}
@@ -57,7 +58,7 @@ carriedOut b (Entry e) = entered (enter b (entryOf e))
 carriedOut b (Row j) = looked b (to-row j (rowReplyOf (row b j)))
 carriedOut b (Pair x y) = looked b (to-pair (pairReplyOf (pair b x y)))
 carriedOut b (Plan n) = looked b (to-plan (planReplyOf (plan b n)))
-carriedOut b Tally = looked b (to-tally (b .tally))
+carriedOut b Tally = looked b (to-tally (b .books .tally))
 carriedOut b Unknown = formless b
 
 -- "An empty line, or a last line without its line feed, gets 10."
@@ -83,10 +84,10 @@ loadLimit = 65536
 
 -- "A text refused as 11 gives the line `(no 11)` and no other; none of its forms is carried out."
 abbrev pub overloaded : Served
-overloaded = record { replies = to-entry (no-number (numberOf Refused.Load)) ∷ []; board = emptyBoard 0 }
+overloaded = record { replies = to-entry (no-number (numberOf Refused.Load)) ∷ []; board = emptyBoard emptyBooks }
 
 unfoldable pub answer : List ℕ → Served
-answer t = cond (leb (length t) loadLimit) (serve (emptyBoard 0) (linesOf t)) overloaded
+answer t = cond (leb (length t) loadLimit) (serve (emptyBoard emptyBooks) (linesOf t)) overloaded
 
 -- the bytes of the answers
 unfoldable pub output : List LineReply → List ℕ
