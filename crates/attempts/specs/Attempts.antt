@@ -9,7 +9,7 @@ use Rattle.board.specs.declared.Board.{Board}
 use Rattle.board.specs.Paper.Limits.{Within}
 use Rattle.board.specs.Update.Filled.{filled, possibly, ArraysWithin, Alters}
 use Rattle.board.specs.Update.Updates.{_andThen_}
-use Rattle.closure.specs.Closing.{closure}
+use Rattle.closing.specs.Closing.{closure}
 use Rattle.statements.specs.declared.stated.Stated.{Stated}
 use Rattle.statements.specs.Stated.{rawOf, jobsWith, grown, Admissible, States, stated-within}
 

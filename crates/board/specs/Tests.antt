@@ -5,4 +5,5 @@ pub mod Limits
 pub mod LimitsDecided
 pub mod Empty
 pub mod Ranges
+pub mod Bounds
 pub mod Sets

@@ -5,8 +5,8 @@ use mathlib.Core.Option.{Option, none, some}
 use Rattle.board.specs.declared.Board.{Board}
 use Rattle.board.specs.declared.Refusal.{Refusal}
 use Rattle.board.specs.Update.Updates.{_andThen_}
-use Rattle.closure.specs.Check.{passes}
-use Rattle.closure.specs.Closing.{closure}
+use Rattle.closing.specs.Check.{passes}
+use Rattle.closing.specs.Closing.{closure}
 use Rattle.entries.specs.Paper.Entry.{Entry}
 use Rattle.entries.specs.Paper.Gate.{checks, gate}
 use Rattle.entries.specs.Paper.Enter.{closureWith, acceptance, refused, concluded, judged, enter}

@@ -6,9 +6,9 @@ use Rattle.board.specs.declared.Board.{Board}
 use Rattle.board.specs.declared.Refusal.the-variants as Refused
 use Rattle.board.specs.Update.Filled.{possibly}
 use Rattle.board.specs.Update.Updates.{_andThen_}
-use Rattle.closure.specs.Check.{passes}
-use Rattle.closure.specs.Checked.{closed-already}
-use Rattle.closure.specs.Closing.{closure}
+use Rattle.closing.specs.Check.{passes}
+use Rattle.closing.specs.Checked.{closed-already}
+use Rattle.closing.specs.Closing.{closure}
 use Rattle.entries.specs.declared.Answer.{Answer}
 use Rattle.entries.specs.declared.Entered.{Entered}
 use Rattle.entries.specs.Paper.Enter.{refused, counted, concluded}

@@ -7,7 +7,7 @@ use marks::sets;
 use rules::Found;
 use search::find;
 ghost use mathlib.Core.Path.{_≡_};
-ghost use Rattle.closure.specs.Check as check;
+ghost use Rattle.closing.specs.Check as check;
 
 // A board within its limits is closed over what it shows where nothing is left to infer.
 pub fn passes(b: Board) -> bool

@@ -21,12 +21,12 @@ use Rattle.marks.specs.Marked.{marked, unmarked}
 use Rattle.rules.specs.Searched.{Searched}
 use Rattle.search.specs.PairsWalk.{ReadSearched}
 use Rattle.closure.specs.Advances.{Advances}
-use Rattle.closure.specs.Closing.{closure}
-use Rattle.closure.specs.Due.{known-more}
-use Rattle.closure.specs.Measure.{measure, measure-mono}
-use Rattle.closure.specs.Reads.{board-read}
+use Rattle.closing.specs.Closing.{closure}
+use Rattle.board.specs.Inference.Known.{known-more}
+use Rattle.closing.specs.Measure.{measure, measure-mono}
+use Rattle.search.specs.Reads.{board-read}
 use Rattle.closure.specs.Timely.{timely}
-use Rattle.closure.specs.Stepping.{reaches-closure, reached-closure, reached-next, reached-none}
+use Rattle.closing.specs.Stepping.{reaches-closure, reached-closure, reached-next, reached-none}
 
 -- what holds of every board of n jobs within its limits with these arrays
 abbrev OnArrays : (Board → Type 0) → ℕ → List ℤ → List ℤ → List ℤ → List ℕ → List ℕ → List ℕ → Type 0

@@ -17,8 +17,9 @@ use Rattle.board.specs.Paper.Values.{sideOf, factOf}
 use Rattle.board.specs.Inference.Infers.{Infers, r45}
 use Rattle.board.specs.Inference.Forced.{valid-live}
 use Rattle.board.specs.Tests.Ranges.{ranges}
+use Rattle.board.specs.Tests.Bounds.{bound-time}
 use Rattle.updates.specs.Applicable.{Timely}
-use Rattle.precedence.specs.Bounds.{bound-time, turned-moderate}
+use Rattle.precedence.specs.Bounds.{turned-moderate}
 
 module _ (b : Board) (within : Within b) where
   time : (s : Side) (j : ℕ) → Live (view b) j → IsTime (bound s (rowOf b j))

@@ -14,7 +14,7 @@ ghost use mathlib.Core.Bool.{true};
 ghost use Rattle.board.specs.Update.Filled.{ArraysWithin, Alters};
 ghost use Rattle.marks.specs.Marked as sets;
 ghost use Rattle.closure.specs.Advances.{Advances};
-ghost use Rattle.closure.specs.Closing as closing;
+ghost use Rattle.closing.specs.Closing as closing;
 
 // Where propagation leads: to a board with these live and valid jobs, or nowhere, where it isn't possible.
 struct Advanced {

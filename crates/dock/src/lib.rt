@@ -9,7 +9,7 @@ use entries::RowAnswer;
 use tries::PlanAnswer;
 use tries::Planned;
 ghost use mathlib.Core.Path.{_≡_};
-ghost use Rattle.closure.specs.Check as check;
+ghost use Rattle.closing.specs.Check as check;
 ghost use Rattle.entries.specs.Paper.Entry as entry;
 ghost use Rattle.entries.specs.Paper.Enter as paper;
 ghost use Rattle.entries.specs.Paper.Values.{entryOf};

@@ -21,7 +21,7 @@ use Rattle.board.specs.Tests.Decides.{Decides}
 use Rattle.board.specs.Tests.Ranges.{ranges}
 use Rattle.energy.specs.declared.EnergyBound.{EnergyBound}
 use Rattle.energy.specs.declared.EnergyBound.the-variants.{Unbounded, At}
-use Rattle.energy.specs.SumBeyond.{SumBeyond}
+use Rattle.board.specs.Inference.SumBeyond.{SumBeyond}
 use Rattle.energy.specs.Energy.{boundAt, lengthAt, Times, Lengths, Sum, Exceeds, boundOf}
 
 -- ---- a board's numbers

@@ -23,6 +23,7 @@ use Rattle.board.specs.Paper.View.{Side, early, late}
 use Rattle.board.specs.Paper.Limits.{IsTime, firstMinute, jobLimit}
 use Rattle.board.specs.Paper.Values.{turned}
 use Rattle.board.specs.Tests.Ranges.{time-moderate}
+use Rattle.board.specs.Tests.Bounds.{turned-time}
 use Rattle.energy.specs.Energy.{boundAt, lengthAt, endAt, Times, Lengths, load, Comes, Strikes, none-struck, struck, Beats, Sum, Exceeds, over}
 
 -- ---- what the code adds fits an i32
@@ -47,11 +48,6 @@ module _ {lengths : List ℤ} (work : Lengths lengths) where
 pub load-none : (lengths : List ℤ) (w : ℕ) → w ≡ 0 → load lengths w ≡ pos 0
 unfolding sum
 load-none lengths w e = total-more 0 jobLimit (bit w) (lengthAt lengths) (omega arith) λ k l. ap (λ x. bit x k) e ∙ bit-zero k
-
--- a time turned is a time
-pub turned-time : (s : Side) (z : ℤ) → IsTime z → IsTime (turned s z)
-turned-time early z t = t
-turned-time late z t = record { low = omega (whole, t .high, minus z); high = omega (whole, t .low, minus z) }
 
 pub turned-back : (s : Side) (z : ℤ) → turned s (turned s z) ≡ z
 turned-back early z = refl

@@ -4,5 +4,4 @@ pub mod Members
 pub mod Laws
 pub mod Passed
 pub mod Single
-pub mod SumBeyond
 pub mod Exact

@@ -16,8 +16,8 @@ use Rattle.minutes.specs.Linear.{whole}
 use Rattle.minutes.specs.Time.{lesser, lesser-left, lesser-right}
 use Rattle.board.specs.Paper.View.{Side}
 use Rattle.board.specs.Paper.Limits.{jobLimit, lastMinute}
+use Rattle.board.specs.Tests.Bounds.{turned-time}
 use Rattle.energy.specs.Energy.{boundAt, Times, LeastBound}
-use Rattle.energy.specs.Laws.{turned-time}
 
 -- z is the bound of a job of the set w that was passed, or still the last minute
 abbrev Reached : Side → List ℤ → ℕ → ℕ → ℤ → Type 0

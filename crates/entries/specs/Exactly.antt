@@ -14,7 +14,7 @@ use Rattle.board.specs.Paper.View.{view}
 use Rattle.board.specs.Paper.Refusals.{numberOf}
 use Rattle.board.specs.Paper.Entries.{Entries, shown}
 use Rattle.board.specs.Paper.Closed.{Contradiction}
-use Rattle.closure.specs.Check.{passes}
+use Rattle.closing.specs.Check.{passes}
 use Rattle.entries.specs.declared.Answer.the-variants as Answers
 use Rattle.entries.specs.declared.Entered.{Entered}
 use Rattle.entries.specs.Paper.Entry.{Entry, withEntry}

@@ -12,8 +12,8 @@ use Rattle.board.specs.Paper.Entries.{Admissible, Drawn, drawn, shown}
 use Rattle.board.specs.Paper.Schedules.{Placing, Schedule, Keeps}
 use Rattle.board.specs.Inference.LeastClosed.{closed-least}
 use Rattle.board.specs.Schedule.Boards.{least-keeps, contradiction-unscheduled}
-use Rattle.closure.specs.Check.{passes}
-use Rattle.closure.specs.Checked.{passes-within}
+use Rattle.closing.specs.Check.{passes}
+use Rattle.closing.specs.Checked.{passes-within}
 use Rattle.entries.specs.Paper.Answers.{no-number, replyOf}
 use Rattle.entries.specs.declared.Entered.{Entered}
 use Rattle.entries.specs.Paper.Entry.{Entry, withEntry}

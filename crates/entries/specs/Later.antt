@@ -6,8 +6,8 @@ use Rattle.board.specs.declared.Board.{Board}
 use Rattle.board.specs.Paper.View.{view}
 use Rattle.board.specs.Paper.Entries.{shown, _⊑_}
 use Rattle.board.specs.Order.Laws.{⊑-trans}
-use Rattle.closure.specs.Check.{passes}
-use Rattle.closure.specs.Checked.{obeys-passes}
+use Rattle.closing.specs.Check.{passes}
+use Rattle.closing.specs.Checked.{obeys-passes}
 use Rattle.entries.specs.declared.Entered.{Entered}
 use Rattle.entries.specs.Paper.Entry.{Entry}
 use Rattle.entries.specs.Paper.Enter.{counted, enter}

@@ -10,8 +10,9 @@ use native.Mathlib.Decide.{ℕ-discrete}
 use borrow.Author.Tests.{eq-eqb, ne-eqb}
 use Rattle.board.specs.declared.Board.{Board}
 use Rattle.board.specs.Paper.View.{Row, View, view}
-use Rattle.board.specs.Paper.Facts.{Fact, is-arc, is-bound, is-valid, is-invalid, Known}
+use Rattle.board.specs.Paper.Facts.{Fact, Known}
 use Rattle.board.specs.Inference.Infers.{Obeys}
+use Rattle.board.specs.Inference.Known.{known-more}
 use Rattle.board.specs.Paper.Entries.{Entries, Admissible, Shows, shown}
 use Rattle.board.specs.Paper.Limits.{jobLimit, Fits, Within, BooksWithin}
 use Rattle.board.specs.Order.Leastness.{Below, Impossible}
@@ -31,15 +32,9 @@ pub record Reached (es : Entries) (b : Board) : Type 0 where
   pub obeys : Obeys (view b)
   pub below : Below es (view b)
 
-known-more : (n : ℕ) (f : Fact) → Known n f → Known (suc n) f
-known-more n (is-arc i k) h = (omega arith, omega arith, h .2)
-known-more n (is-bound s j z) h = omega arith
-known-more n (is-valid j) h = omega arith
-known-more n (is-invalid j) h = omega arith
-
 admissible-row : (es : Entries) (r : Row) → Admissible es → es .jobs < jobLimit → Fits r → Admissible (addRow es r)
 admissible-row es r h free fits =
-    record { jobs = free; rows = λ k l. row k l (ℕ-discrete k (es .jobs)); about = λ f i. known-more (es .jobs) f (h .about f i) }
+    record { jobs = free; rows = λ k l. row k l (ℕ-discrete k (es .jobs)); about = λ f i. known-more (omega arith) f (h .about f i) }
   where
     row : (k : ℕ) → k < suc (es .jobs) → Dec (k ≡ es .jobs) → addRow es r .row k .mark ≢ 2 → Fits (addRow es r .row k)
     row k l (yes e) = rw (eq-eqb k (es .jobs) e) λ n. fits

@@ -7,8 +7,8 @@ use Rattle.board.specs.Paper.Entries.{shown}
 use Rattle.board.specs.Paper.Limits.{Within}
 use Rattle.board.specs.Update.Extension.{Extension, Extends}
 use Rattle.board.specs.Update.Compose.{extends-then}
-use Rattle.closure.specs.Closes.{closure-closes}
-use Rattle.closure.specs.Closing.{closure}
+use Rattle.closing.specs.Closes.{closure-closes}
+use Rattle.closing.specs.Closing.{closure}
 use Rattle.entries.specs.Paper.Entry.{Entry, withEntry}
 use Rattle.entries.specs.Made.{ShowsEntry, entry-up}
 use Rattle.entries.specs.Allowed.{Allowed}

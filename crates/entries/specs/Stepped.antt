@@ -12,8 +12,8 @@ use Rattle.board.specs.Order.Leastness.{Impossible, below-least, below-shown, i
 use Rattle.board.specs.Update.Extension.{above-self}
 use Rattle.board.specs.Inference.Agrees.{obeys-rules}
 use Rattle.board.specs.Inference.LeastClosed.{least-closed}
-use Rattle.closure.specs.Check.{passes}
-use Rattle.closure.specs.Checked.{passes-within, passes-books, passes-obeys, obeys-passes}
+use Rattle.closing.specs.Check.{passes}
+use Rattle.closing.specs.Checked.{passes-within, passes-books, passes-obeys, obeys-passes}
 use Rattle.entries.specs.declared.Entered.{Entered}
 use Rattle.entries.specs.Paper.Entry.{Entry, withEntry}
 use Rattle.entries.specs.Paper.Gate.{checks, gate}

@@ -10,8 +10,8 @@ use Rattle.board.specs.Paper.Refusals.{numberOf}
 use Rattle.board.specs.Paper.Limits.{tallyLimit}
 use Rattle.board.specs.Paper.View.{view}
 use Rattle.board.specs.Paper.Entries.{shown}
-use Rattle.closure.specs.Check.{passes}
-use Rattle.closure.specs.Checked.{passes-books}
+use Rattle.closing.specs.Check.{passes}
+use Rattle.closing.specs.Checked.{passes-books}
 use Rattle.entries.specs.declared.Entered.{Entered}
 use Rattle.entries.specs.Paper.Entry.{Entry, addition, other}
 use Rattle.entries.specs.Paper.Enter.{enter}

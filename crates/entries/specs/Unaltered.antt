@@ -15,8 +15,8 @@ use Rattle.board.specs.Paper.Closed.{Least}
 use Rattle.board.specs.Inference.LeastClosed.{closed-least}
 use Rattle.board.specs.Order.Laws.{holds-up}
 use Rattle.board.specs.Order.Unique.{least-unique, equal-boards}
-use Rattle.closure.specs.Check.{passes}
-use Rattle.closure.specs.Checked.{passes-within, passes-least}
+use Rattle.closing.specs.Check.{passes}
+use Rattle.closing.specs.Checked.{passes-within, passes-least}
 use Rattle.entries.specs.declared.Answer.the-variants as Answers
 use Rattle.entries.specs.declared.Entered.{Entered}
 use Rattle.entries.specs.Paper.Entry.{Statement, arc, cut, Entry, other, number, stated, withEntry}

@@ -1,33 +1,29 @@
 // A call whose answer is written, and the board after it.
 use board::Board;
 use dock::Dock;
+use entries::Entered;
+use tries::Planned;
 
-pub fn addition(board: Board, length: i32, earliest: i32, latest: i32, mark: i32) -> Board {
-    let entered = Dock { board }.addition(length, earliest, latest, mark);
+fn answered(entered: Entered) -> Board {
     let answer = entered.answer;
     writing::answer(answer);
     entered.board
+}
+
+pub fn addition(board: Board, length: i32, earliest: i32, latest: i32, mark: i32) -> Board {
+    answered(Dock { board }.addition(length, earliest, latest, mark))
 }
 
 pub fn arc(board: Board, from: i32, to: i32) -> Board {
-    let entered = Dock { board }.arc(from, to);
-    let answer = entered.answer;
-    writing::answer(answer);
-    entered.board
+    answered(Dock { board }.arc(from, to))
 }
 
 pub fn mark(board: Board, job: i32, mark: i32) -> Board {
-    let entered = Dock { board }.mark(job, mark);
-    let answer = entered.answer;
-    writing::answer(answer);
-    entered.board
+    answered(Dock { board }.mark(job, mark))
 }
 
 pub fn cut(board: Board, job: i32, earliest: i32, latest: i32) -> Board {
-    let entered = Dock { board }.cut(job, earliest, latest);
-    let answer = entered.answer;
-    writing::answer(answer);
-    entered.board
+    answered(Dock { board }.cut(job, earliest, latest))
 }
 
 pub fn row(board: Board, job: u16) {
@@ -39,5 +35,6 @@ pub fn pair(board: Board, a: i32, b: i32) {
 }
 
 pub fn plan(board: Board, budget: i32) {
-    writing::plan(Dock { board }.plan(budget));
+    let planned: Planned = Dock { board }.plan(budget);
+    writing::plan(planned);
 }

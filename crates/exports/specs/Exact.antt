@@ -9,7 +9,7 @@ use Rattle.board.specs.declared.Board.{Board}
 use Rattle.board.specs.declared.Refusal.{Refusal}
 use Rattle.board.specs.declared.Refusal.the-variants as Refused
 use Rattle.board.specs.Paper.Refusals.{numberOf}
-use Rattle.closure.specs.Check.{passes}
+use Rattle.closing.specs.Check.{passes}
 use Rattle.entries.specs.declared.Answer.{Answer}
 use Rattle.entries.specs.declared.Answer.the-variants as Answers
 use Rattle.entries.specs.declared.RowAnswer.{RowAnswer}

@@ -6,8 +6,8 @@ use Rattle.board.specs.declared.Board.{Board}
 use Rattle.board.specs.Paper.Limits.{emptyBoard}
 use Rattle.board.specs.Paper.Parts.{emptyBooks}
 use Rattle.board.specs.Tests.Empty.{within-emptyBooks}
-use Rattle.closure.specs.Check.{passes}
-use Rattle.closure.specs.Checked as checked
+use Rattle.closing.specs.Check.{passes}
+use Rattle.closing.specs.Checked as checked
 use Rattle.entries.specs.Paper.Entry.{Entry}
 use Rattle.entries.specs.Paper.Enter.{enter}
 use Rattle.entries.specs.Later.{call-later}

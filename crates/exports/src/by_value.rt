@@ -7,7 +7,7 @@ use crate::replies::plan_reply;
 use crate::replies::row_reply;
 use dock::Dock;
 ghost use mathlib.Core.Path.{_≡_};
-ghost use Rattle.closure.specs.Check as check;
+ghost use Rattle.closing.specs.Check as check;
 ghost use Rattle.entries.specs.Paper.Looking as looking;
 ghost use Rattle.tries.specs.Paper.Planner as planning;
 ghost use Rattle.exports.specs.Replies.{rowReply, pairReply, planReply};

@@ -10,7 +10,7 @@ use dock::Dock;
 ghost use mathlib.Core.Path.{_≡_};
 ghost use Rattle.board.specs.Paper.Limits.{emptyBoard};
 ghost use Rattle.board.specs.Paper.Parts.{emptyBooks};
-ghost use Rattle.closure.specs.Check as check;
+ghost use Rattle.closing.specs.Check as check;
 ghost use Rattle.entries.specs.Paper.Entry as entry;
 ghost use Rattle.entries.specs.Paper.Enter as paper;
 ghost use Rattle.entries.specs.Paper.Looking as looking;

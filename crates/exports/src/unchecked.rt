@@ -10,7 +10,7 @@ use dock::Dock;
 use entries::Entry;
 ghost use mathlib.Core.Path.{_≡_};
 ghost use mathlib.Core.Bool.{true};
-ghost use Rattle.closure.specs.Check.{passes};
+ghost use Rattle.closing.specs.Check.{passes};
 ghost use Rattle.entries.specs.Paper.Entry as entry;
 ghost use Rattle.entries.specs.Paper.Enter as paper;
 ghost use Rattle.entries.specs.Paper.Looking as looking;

@@ -23,7 +23,7 @@ use Rattle.board.specs.Tests.Decides.{Decides, retested, _and_, holds, valid-is
 use Rattle.board.specs.Inference.Infers.{Infers, r45, r6}
 use Rattle.energy.specs.Energy.{Sum, boundAt}
 use Rattle.energy.specs.Exact.{timesOf, bound-is, energy-is, sum-beyond, sum-of, exceeds-beyond}
-use Rattle.energy.specs.SumBeyond.{sum-pushes, pushing-sum}
+use Rattle.board.specs.Inference.SumBeyond.{sum-pushes, pushing-sum}
 use Rattle.job_rules.specs.BoundBeyond.{LastUnder, BoundBeyond, pushing}
 use Rattle.rules.specs.Searched.{Searched, JobsObey}
 use Rattle.job_rules.specs.Settled.{Settled, LastEnds, all-obeyed}

@@ -20,8 +20,8 @@ use Rattle.board.specs.Paper.Rules.{energy}
 use Rattle.board.specs.Tests.Ranges.{ranges}
 use Rattle.board.specs.Tests.Decides.{Decides, _and_, negated, holds, eq}
 use Rattle.board.specs.Inference.Infers.{Pushing}
+use Rattle.board.specs.Tests.Bounds.{turned-time}
 use Rattle.energy.specs.Exact.{times-within, bound-is}
-use Rattle.energy.specs.Laws.{turned-time}
 use Rattle.rules.specs.Searched.{SideObeys}
 
 -- The valid jobs beyond j lie beyond a last one, but for some that stand apart. With all of these the last one ends by the bound of j, and

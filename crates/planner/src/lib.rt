@@ -14,7 +14,7 @@ ghost use lib.Signed.{leZ};
 ghost use Rattle.words.specs.Bit.{intersection};
 ghost use Rattle.board.specs.Paper.Limits.{Within, jobLimit};
 ghost use Rattle.board.specs.Paper.View.{view};
-ghost use Rattle.closure.specs.Check.{passes};
+ghost use Rattle.closing.specs.Check.{passes};
 ghost use Rattle.marks.specs.Marked as sets;
 ghost use Rattle.tries.specs.Paper.Planner as paper;
 ghost use Rattle.tries.specs.Paper.Tries as definition;

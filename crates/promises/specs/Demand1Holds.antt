@@ -12,8 +12,8 @@ use Rattle.minutes.specs.Bools.{clash, refuted, and-parts}
 use Rattle.board.specs.declared.Board.{Board}
 use Rattle.board.specs.declared.Refusal.{Refusal}
 use Rattle.board.specs.Paper.Refusals.{numberOf}
-use Rattle.closure.specs.Check.{passes}
-use Rattle.closure.specs.Checked.{passes-closed}
+use Rattle.closing.specs.Check.{passes}
+use Rattle.closing.specs.Checked.{passes-closed}
 use Rattle.entries.specs.declared.Answer.{Answer}
 use Rattle.entries.specs.declared.Answer.the-variants as Answers
 use Rattle.entries.specs.Answered.{lines, gate-line}

@@ -12,8 +12,8 @@ use Rattle.board.specs.Paper.Closed.{LeastClosed}
 use Rattle.board.specs.Paper.Entries.{Entries, shown}
 use Rattle.board.specs.Paper.Limits.{BooksWithin}
 use Rattle.board.specs.Paper.View.{view}
-use Rattle.closure.specs.Check.{passes}
-use Rattle.closure.specs.Checked.{passes-closed, obeys-passes}
+use Rattle.closing.specs.Check.{passes}
+use Rattle.closing.specs.Checked.{passes-closed, obeys-passes}
 use Rattle.entries.specs.declared.Entered.{Entered}
 use Rattle.entries.specs.Exactly.{outcome-exactly}
 use Rattle.entries.specs.Paper.Answers.{replyOf}

@@ -21,8 +21,8 @@ use Rattle.board.specs.Paper.Rules.{Rules}
 use Rattle.board.specs.Paper.Schedules.{Placing, Schedule}
 use Rattle.board.specs.Paper.View.{View, Live, Valid, Arc, view}
 use Rattle.board.specs.Schedule.Boards.{least-keeps, contradiction-unscheduled}
-use Rattle.closure.specs.Check.{passes}
-use Rattle.closure.specs.Checked.{passes-closed, passes-least, obeys-passes, empty-passes}
+use Rattle.closing.specs.Check.{passes}
+use Rattle.closing.specs.Checked.{passes-closed, passes-least, obeys-passes, empty-passes}
 use Rattle.entries.specs.Answered.{answered-impossible}
 use Rattle.entries.specs.HandedIn.{admissible-shown}
 use Rattle.entries.specs.Listed.{agree-snoc, agreed}

@@ -13,7 +13,7 @@ use Rattle.board.specs.Paper.Entries.{shown}
 use Rattle.board.specs.Paper.Refusals.{numberOf}
 use Rattle.board.specs.Paper.Tests.{live}
 use Rattle.board.specs.Paper.View.{View, view}
-use Rattle.closure.specs.Check.{passes}
+use Rattle.closing.specs.Check.{passes}
 use Rattle.entries.specs.declared.Entered.{Entered}
 use Rattle.entries.specs.Paper.Answers.{Reply, ok-number, ok, no-number, replyOf, pairReplyOf}
 use Rattle.entries.specs.Paper.Entry.{arc, mark, cut, Entry, addition, other, number}

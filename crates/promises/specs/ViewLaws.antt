@@ -16,8 +16,8 @@ use Rattle.board.specs.Paper.Tests.{live}
 use Rattle.board.specs.Paper.View.{View, view, arcOf}
 use Rattle.board.specs.Paper.Rules.{E, D}
 use Rattle.board.specs.Tests.Live.{live-yes, live-show}
-use Rattle.closure.specs.Check.{passes}
-use Rattle.closure.specs.Checked.{passes-within}
+use Rattle.closing.specs.Check.{passes}
+use Rattle.closing.specs.Checked.{passes-within}
 use Rattle.entries.specs.Lines.{no-line, unmet}
 use Rattle.entries.specs.Paper.Answers.{rowReplyOf, pairReplyOf}
 use Rattle.entries.specs.Paper.Gate.{isJob, jobCheck, pairChecks, gate}

@@ -21,10 +21,10 @@ use Rattle.board.specs.Paper.View.{view}
 use Rattle.board.specs.Tests.Empty.{within-emptyBooks, idle-obeys}
 use Rattle.board.specs.Tests.LimitsDecided.{limits-yes}
 use Rattle.board.specs.Update.Updates.{exclude, tighten, update, _andThen_}
-use Rattle.closure.specs.Find.{guard, _orElse_, first, any, beyond, tooLate, joined, pushers, pushed, push, next, find}
-use Rattle.closure.specs.Closing.{close, closure}
-use Rattle.closure.specs.Check.{nothingLeft, passes}
-use Rattle.closure.specs.Checked.{obeys-passes}
+use Rattle.closing.specs.Find.{guard, _orElse_, first, any, beyond, tooLate, joined, pushers, pushed, push, next, find}
+use Rattle.closing.specs.Closing.{close, closure}
+use Rattle.closing.specs.Check.{nothingLeft, passes}
+use Rattle.closing.specs.Checked.{obeys-passes}
 use Rattle.entries.specs.Paper.Entry.{cut, addition, other}
 use Rattle.entries.specs.Paper.Gate.{gate}
 use Rattle.entries.specs.Paper.Enter.{updateAll, raw, closureWith, enter}

@@ -3,3 +3,4 @@ pub mod Partners
 pub mod Settled
 pub mod Rows
 pub mod PairsWalk
+pub mod Reads

@@ -19,7 +19,7 @@ use Rattle.board.specs.Update.Extension.{Extends, HasRow, Updated}
 use Rattle.board.specs.Update.Appended.{appended}
 use Rattle.board.specs.Update.Updated.{updated}
 use Rattle.updates.specs.Applicable.{Timely}
-use Rattle.closure.specs.Due.{known-more}
+use Rattle.board.specs.Inference.Known.{known-more}
 use Rattle.entries.specs.Allowed.{KnownAll}
 use Rattle.entries.specs.Made.{HoldAll}
 use Rattle.entries.specs.Raw.{updated-all}

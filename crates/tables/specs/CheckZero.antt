@@ -17,8 +17,8 @@ use Rattle.board.specs.Paper.Parts.{ofParts, emptyBooks, withTally}
 use Rattle.board.specs.Paper.Tests.{live, valid, between, implies}
 use Rattle.board.specs.Tests.Limits.{all, isZero, fits, isZeroRow, full, shape, holdsJob, holdsNothing, joinable, agrees, withinLimits}
 use Rattle.board.specs.Update.Updates.{update, _andThen_}
-use Rattle.closure.specs.Find.{guard, _orElse_, first, any, beyond, tooLate, joined, pushers, pushed, push, next, find}
-use Rattle.closure.specs.Check.{nothingLeft, passes}
+use Rattle.closing.specs.Find.{guard, _orElse_, first, any, beyond, tooLate, joined, pushers, pushed, push, next, find}
+use Rattle.closing.specs.Check.{nothingLeft, passes}
 use Rattle.entries.specs.Paper.Answers.{replyOf}
 use Rattle.entries.specs.Paper.Gate.{gate}
 use Rattle.entries.specs.Paper.Enter.{updateAll, raw, closureWith, enter}

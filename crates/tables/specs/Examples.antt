@@ -19,9 +19,9 @@ use Rattle.board.specs.Tests.Limits.{all, isZero, fits, isZeroRow, full, shape,
 use Rattle.board.specs.Paper.Schedules.{Placing}
 use Rattle.board.specs.Paper.View.{rowOf}
 use Rattle.board.specs.Update.Updates.{exclude, tighten, update, _andThen_}
-use Rattle.closure.specs.Find.{guard, _orElse_, first, any, beyond, tooLate, joined, pushers, pushed, push, next, find}
-use Rattle.closure.specs.Closing.{close, closure}
-use Rattle.closure.specs.Check.{nothingLeft, passes}
+use Rattle.closing.specs.Find.{guard, _orElse_, first, any, beyond, tooLate, joined, pushers, pushed, push, next, find}
+use Rattle.closing.specs.Closing.{close, closure}
+use Rattle.closing.specs.Check.{nothingLeft, passes}
 use Rattle.entries.specs.Paper.Answers.{replyOf, RowReply, shows-row, no-row, rowReplyOf, PairReply, shows-pair, no-pair, pairReplyOf}
 use Rattle.entries.specs.Paper.Entry.{Entry}
 use Rattle.entries.specs.Paper.Gate.{gate}

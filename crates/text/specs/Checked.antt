@@ -18,8 +18,8 @@ use Rattle.board.specs.Tests.Empty.{within-emptyBooks}
 use Rattle.board.specs.Paper.Refusals.{numberOf}
 use Rattle.board.specs.Paper.View.{View, view}
 use Rattle.board.specs.Paper.Tests.{live}
-use Rattle.closure.specs.Check.{passes}
-use Rattle.closure.specs.Checked.{empty-passes}
+use Rattle.closing.specs.Check.{passes}
+use Rattle.closing.specs.Checked.{empty-passes}
 use Rattle.forms.specs.Paper.Forms.{formOf}
 use Rattle.entries.specs.Paper.Entry.{Entry, number}
 use Rattle.entries.specs.Paper.Values.{entryOf}

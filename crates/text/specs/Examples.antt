@@ -8,9 +8,9 @@ use Rattle.minutes.specs.Sum.{sum, count}
 use Rattle.board.specs.Paper.Tests.{implies, between, live, valid}
 use Rattle.board.specs.Tests.Limits.{all, isZero, fits, isZeroRow, full, shape, holdsJob, holdsNothing, joinable, agrees, withinLimits}
 use Rattle.board.specs.Update.Updates.{exclude, tighten, update, _andThen_}
-use Rattle.closure.specs.Find.{guard, _orElse_, first, any, beyond, tooLate, joined, pushers, pushed, push, next, find}
-use Rattle.closure.specs.Closing.{close, closure}
-use Rattle.closure.specs.Check.{nothingLeft, passes}
+use Rattle.closing.specs.Find.{guard, _orElse_, first, any, beyond, tooLate, joined, pushers, pushed, push, next, find}
+use Rattle.closing.specs.Closing.{close, closure}
+use Rattle.closing.specs.Check.{nothingLeft, passes}
 use Rattle.entries.specs.Paper.Gate.{gate}
 use Rattle.entries.specs.Paper.Enter.{updateAll, raw, closureWith, enter}
 use Rattle.entries.specs.Paper.Looking.{row, pair}

@@ -13,7 +13,7 @@ use Rattle.board.specs.Paper.Limits.{emptyBoard}
 use Rattle.board.specs.Paper.Parts.{emptyBooks}
 use Rattle.board.specs.Paper.Refusals.{numberOf}
 use Rattle.board.specs.Tests.Empty.{within-emptyBooks}
-use Rattle.closure.specs.Checked.{empty-passes}
+use Rattle.closing.specs.Checked.{empty-passes}
 use Rattle.replies.specs.Paper.Replies.{refusalText}
 use Rattle.replies.specs.Room.{longest}
 use Rattle.text.specs.declared.Piece.{Piece}

@@ -14,7 +14,7 @@ use Rattle.numerals.specs.Written.{Written}
 use Rattle.board.specs.declared.Board.{Board}
 use Rattle.board.specs.declared.Refusal.the-variants as Refused
 use Rattle.board.specs.Paper.Refusals.{numberOf}
-use Rattle.closure.specs.Check.{passes}
+use Rattle.closing.specs.Check.{passes}
 use Rattle.forms.specs.Paper.Forms.{formOf}
 use Rattle.replies.specs.Paper.Replies.{refusalText}
 use Rattle.replies.specs.Room.{longest}

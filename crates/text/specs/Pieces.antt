@@ -5,7 +5,7 @@ use mathlib.Core.List.{List, [], _∷_, _++_, append-nil, append-assoc}
 use Prim.Native.Nat.{ℕ}
 use lib.ListN.{take, drop}
 use Rattle.board.specs.declared.Board.{Board}
-use Rattle.closure.specs.Check.{passes}
+use Rattle.closing.specs.Check.{passes}
 use Rattle.text.specs.declared.Piece.{Piece}
 use Rattle.forms.specs.Paper.Lines.{linesOf}
 use Rattle.text.specs.Paper.Text.{serve, answer, output}

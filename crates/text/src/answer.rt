@@ -18,7 +18,7 @@ ghost use mathlib.Core.Bool.{true};
 ghost use Prim.Native.Nat.{_+_, _≤_};
 ghost use lib.ListN.{length};
 ghost use Rattle.numerals.specs.Written.{Written};
-ghost use Rattle.closure.specs.Check.{passes};
+ghost use Rattle.closing.specs.Check.{passes};
 ghost use Rattle.replies.specs.Room.{longest};
 ghost use Rattle.text.specs.Paper.Text as paper;
 

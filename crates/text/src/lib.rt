@@ -12,7 +12,7 @@ ghost use mathlib.Core.Path.{_≡_};
 ghost use mathlib.Core.Bool.{true};
 ghost use Prim.Native.Nat.{_≤_};
 ghost use lib.ListN.{length};
-ghost use Rattle.closure.specs.Check.{passes};
+ghost use Rattle.closing.specs.Check.{passes};
 ghost use Rattle.replies.specs.Room.{longest};
 ghost use Rattle.forms.specs.Paper.Lines.{linesOf};
 ghost use Rattle.text.specs.Paper.Text as paper;

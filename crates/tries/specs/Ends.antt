@@ -20,8 +20,8 @@ use Rattle.board.specs.Schedule.Boards.{least-keeps}
 use Rattle.board.specs.Schedule.Keeps.{keeps-schedule}
 use Rattle.board.specs.Tests.LimitsDecided.{decides-between}
 use Rattle.board.specs.Tests.Live.{valid-yes}
-use Rattle.closure.specs.Check.{passes}
-use Rattle.closure.specs.Checked.{passes-within}
+use Rattle.closing.specs.Check.{passes}
+use Rattle.closing.specs.Checked.{passes-within}
 use Rattle.entries.specs.Paper.Entry.{number}
 use Rattle.entries.specs.Paper.Gate.{budgetLimit}
 use Rattle.tries.specs.declared.PlanAnswer.the-variants as Answers

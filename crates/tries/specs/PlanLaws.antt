@@ -22,7 +22,7 @@ use Rattle.board.specs.Tests.Live.{valid-yes}
 use Rattle.board.specs.Tests.LimitsDecided.{past, decides-between}
 use Rattle.board.specs.declared.Board.{Board}
 use Rattle.board.specs.declared.Refusal.the-variants as Refused
-use Rattle.closure.specs.Check.{passes}
+use Rattle.closing.specs.Check.{passes}
 use Rattle.entries.specs.Paper.Entry.{number}
 use Rattle.entries.specs.Paper.Gate.{budgetLimit, budgetCheck, gate}
 use Rattle.entries.specs.Lines.{no-line, met, unmet, passed}

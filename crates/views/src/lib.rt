@@ -13,7 +13,7 @@ ghost use lib.Dec.{eqb, ltb};
 ghost use lib.IntN.{_-ℤ_};
 ghost use Rattle.board.specs.Paper.Limits.{Within, jobLimit};
 ghost use Rattle.board.specs.Paper.View.{rowOf};
-ghost use Rattle.closure.specs.Check.{passes};
+ghost use Rattle.closing.specs.Check.{passes};
 ghost use Rattle.entries.specs.Paper.Looking as looking;
 
 // "Row of a job: mark, E, D, the set before it and the set after it."

@@ -3,7 +3,7 @@ use mathlib.Core.Path.{refl, _∙_}
 use borrow.Author.Needs.{needs}
 use borrow.Author.Tests.{not-true, not-false}
 use Rattle.board.specs.Paper.Limits.{Within}
-use Rattle.closure.specs.Checked.{passes-within}
+use Rattle.closing.specs.Checked.{passes-within}
 use Rattle.statements.specs.Stated.{placed}
 use Rattle.calls.specs.Concluded.{shown-already, is-impossible, is-possible}
 use Rattle.calls.proofs.conclude.Statement.{statement}

@@ -12,8 +12,8 @@ use Rattle.board.specs.Inference.Infers.{Obeys}
 use Rattle.board.specs.Tests.LimitsDecided.{limits-yes, limits-show, decides-books}
 use Rattle.rules.specs.Searched.{Searched}
 use Rattle.rules.specs.Values.{inferredOf}
-use Rattle.closure.specs.Reads.{arrays-hold, board-read}
-use Rattle.closure.specs.Checked.{passes-within, passes-books, passes-obeys, obeys-passes}
+use Rattle.search.specs.Reads.{arrays-hold, board-read}
+use Rattle.closing.specs.Checked.{passes-within, passes-books, passes-obeys, obeys-passes}
 use Rattle.check0.proofs.passes.Statement.{statement}
 use Rattle.check0.proofs.passes.Tie as tie
 

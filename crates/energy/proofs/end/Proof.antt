@@ -6,8 +6,9 @@ use mir.Val.{toZ, ofZ}
 use mir.ValLaws.{toZ-ofZ}
 use Rattle.board.specs.Tests.Ranges.{time-moderate}
 use Rattle.board.specs.Paper.Values.{sideOf}
+use Rattle.board.specs.Tests.Bounds.{turned-time}
 use Rattle.energy.specs.Energy.{boundAt}
-use Rattle.energy.specs.Laws.{turned-time, length-fits, length-moderate}
+use Rattle.energy.specs.Laws.{length-fits, length-moderate}
 use Rattle.energy.proofs.end.Statement.{statement}
 use Rattle.energy.proofs.end.Tie as tie
 

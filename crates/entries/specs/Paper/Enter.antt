@@ -10,8 +10,8 @@ use Rattle.board.specs.Paper.Facts.{Fact}
 use Rattle.board.specs.Paper.Limits.{tallyLimit}
 use Rattle.board.specs.Paper.Parts.{withBooks, withTally}
 use Rattle.board.specs.Update.Updates.{update, append, _andThen_}
-use Rattle.closure.specs.Closing.{closure}
-use Rattle.closure.specs.Check.{passes}
+use Rattle.closing.specs.Closing.{closure}
+use Rattle.closing.specs.Check.{passes}
 use Rattle.entries.specs.declared.Answer.{Answer}
 use Rattle.entries.specs.declared.Answer.the-variants as Answers
 use Rattle.entries.specs.declared.Entered.{Entered}

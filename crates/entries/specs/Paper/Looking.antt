@@ -9,7 +9,7 @@ use Rattle.board.specs.declared.Board.{Board}
 use Rattle.board.specs.declared.Refusal.the-variants as Refused
 use Rattle.board.specs.Paper.View.{rowOf, arcOf, view}
 use Rattle.board.specs.Paper.Tests.{live}
-use Rattle.closure.specs.Check.{passes}
+use Rattle.closing.specs.Check.{passes}
 use Rattle.entries.specs.declared.RowAnswer.{RowAnswer}
 use Rattle.entries.specs.declared.RowAnswer.the-variants as Rows
 use Rattle.entries.specs.declared.PairAnswer.{PairAnswer}

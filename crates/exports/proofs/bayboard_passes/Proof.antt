@@ -2,7 +2,7 @@
 use mathlib.Core.Path.{_≡_}
 use mathlib.Core.List.{[]}
 use mathlib.Core.Option.{none}
-use Rattle.closure.specs.Check as check
+use Rattle.closing.specs.Check as check
 use Rattle.host.proofs.Called.{holds}
 use Rattle.host.proofs.Looked.{law}
 use Rattle.host.proofs.Plain.{truth}

@@ -4,7 +4,7 @@ use mathlib.Core.List.{[], _∷_}
 use mathlib.Core.Option.{none}
 use borrow.Author.Needs.{needs}
 use mir.ValLaws.{toZ-ofZ}
-use Rattle.closure.specs.Checked.{passes-within}
+use Rattle.closing.specs.Checked.{passes-within}
 use Rattle.entries.specs.Paper.Gate.{budgetCheck, gate}
 use Rattle.gate.specs.Values.{refusalOf}
 use Rattle.tries.specs.Paper.Planner.{plan}

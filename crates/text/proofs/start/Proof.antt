@@ -1,7 +1,7 @@
 -- `text::start` meets its contract. Assumes nothing.
 use native.Mathlib.Omega.{arith}
 use borrow.Author.Needs.{needs}
-use Rattle.closure.specs.Checked.{empty-passes}
+use Rattle.closing.specs.Checked.{empty-passes}
 use Rattle.text.specs.Load.{overloaded-answers, loaded-answers}
 use Rattle.text.proofs.start.Statement.{statement}
 use Rattle.text.proofs.start.Tie as tie

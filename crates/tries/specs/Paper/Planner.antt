@@ -12,7 +12,7 @@ use Rattle.board.specs.declared.Refusal.the-variants as Refused
 use Rattle.board.specs.Paper.Limits.{jobLimit}
 use Rattle.board.specs.Paper.View.{View, view}
 use Rattle.board.specs.Paper.Tests.{valid}
-use Rattle.closure.specs.Check.{passes}
+use Rattle.closing.specs.Check.{passes}
 use Rattle.entries.specs.Paper.Entry.{number}
 use Rattle.entries.specs.Paper.Gate.{budgetCheck, gate}
 use Rattle.tries.specs.declared.PlanAnswer.{PlanAnswer}

@@ -4,7 +4,7 @@ use mathlib.Core.Option.{none}
 use native.Mathlib.Omega.{arith}
 use borrow.Author.Needs.{needs}
 use mir.ValLaws.{toZ-ofZ}
-use Rattle.closure.specs.Checked.{passes-within}
+use Rattle.closing.specs.Checked.{passes-within}
 use Rattle.entries.specs.Paper.Gate.{pairChecks, gate}
 use Rattle.entries.specs.Paper.Looking.{pair}
 use Rattle.gate.specs.Values.{refusalOf}

@@ -5,7 +5,7 @@ use mathlib.Core.Option.{none}
 use native.Mathlib.Omega.{arith}
 use borrow.Author.Needs.{needs}
 use mir.ValLaws.{toZ-ofZ}
-use Rattle.closure.specs.Checked.{passes-within}
+use Rattle.closing.specs.Checked.{passes-within}
 use Rattle.entries.specs.Paper.Gate.{jobCheck, gate}
 use Rattle.entries.specs.Paper.Looking.{row}
 use Rattle.gate.specs.Values.{refusalOf}

@@ -5,7 +5,7 @@ use Prim.Native.Nat.{_≤_}
 use native.Mathlib.Omega.{arith}
 use Rattle.board.specs.Paper.Limits.{jobLimit}
 use Rattle.closure.specs.Advances.{advanced, advanced-none, advanced-struck, struck-sets}
-use Rattle.closure.specs.Reads.{arrays-hold}
+use Rattle.search.specs.Reads.{arrays-hold}
 use Rattle.closure.proofs.close.advance.Statement.{statement}
 use Rattle.closure.proofs.close.advance.Tie as tie
 

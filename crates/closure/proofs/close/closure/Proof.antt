@@ -7,8 +7,8 @@ use borrow.Author.Tests.{not-true, not-false}
 use Rattle.board.specs.Update.Filled.{arrayed, ArraysWithin}
 use Rattle.rules.specs.Values.{inferredOf}
 use Rattle.closure.specs.Advances.{Advances}
-use Rattle.closure.specs.Measure.{measure}
-use Rattle.closure.specs.Reads.{arrays-hold}
+use Rattle.closing.specs.Measure.{measure}
+use Rattle.search.specs.Reads.{arrays-hold}
 use Rattle.closure.specs.InPlace.{advances-none, advances-within, arrays-none, arrays-next, arrays-contradict, arrays-less, led, led-closed, led-unshown, led-known, led-placed, led-timely}
 use Rattle.closure.proofs.close.closure.Statement.{statement}
 use Rattle.closure.proofs.close.closure.Tie as tie

@@ -1,7 +1,7 @@
 -- `statements::stated::due_to` meets its contract: it is asked of jobs alone. Assumes nothing.
 use borrow.Author.Needs.{needs}
 use Rattle.board.specs.Paper.Values.{factOf}
-use Rattle.closure.specs.Due.{known-more}
+use Rattle.board.specs.Inference.Known.{known-more}
 use Rattle.statements.proofs.stated.due_to.Statement.{statement}
 use Rattle.statements.proofs.stated.due_to.Tie as tie
 

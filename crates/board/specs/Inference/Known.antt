@@ -1,7 +1,7 @@
--- The jobs that a fact is about have one of the 64 places.
+-- A fact about jobs of a board is one about jobs of any larger one.
 use Prim.Native.Nat.{ℕ, _≤_}
 use native.Mathlib.Omega.{arith}
 use Rattle.board.specs.Paper.Facts.{Fact, is-arc, is-bound, is-valid, is-invalid, Known}
 
 pub known-more : {n m : ℕ} → n ≤ m → (f : Fact) → Known n f → Known m f
 known-more l (is-arc i k) (x, y, ne) = (omega arith, omega arith, ne)

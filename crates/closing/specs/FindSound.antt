@@ -7,9 +7,9 @@ use Rattle.board.specs.Paper.View.{View, Live, Valid, Arc, Side, early, late, b
 use Rattle.board.specs.Paper.Facts.{Fact, is-arc, is-invalid, Holds}
 use Rattle.board.specs.Inference.Infers.{Pushing, Infers, r1, r2, r3, r45, r6}
 use Rattle.board.specs.Paper.Tests.{valid}
-use Rattle.closure.specs.Find.{pushers, pushed, push, next, find}
-use Rattle.closure.specs.Search.{Finds, guard-finds, _else_, first-finds}
-use Rattle.closure.specs.FindTests.{room-is, exclude-is, order-is, join-is, pusher-is, push-is}
+use Rattle.closing.specs.Find.{pushers, pushed, push, next, find}
+use Rattle.closing.specs.Search.{Finds, guard-finds, _else_, first-finds}
+use Rattle.closing.specs.FindTests.{room-is, exclude-is, order-is, join-is, pusher-is, push-is}
 
 -- a rule infers it, and the view does not show it
 abbrev Unshown : View → Fact → Type 0

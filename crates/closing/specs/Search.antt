@@ -9,7 +9,7 @@ use borrow.Author.Count.{below-more}
 use Rattle.minutes.specs.Bools.{clash, refuted}
 use Rattle.board.specs.Paper.Facts.{Fact}
 use Rattle.board.specs.Tests.Decides.{Decides}
-use Rattle.closure.specs.Find.{guard, _orElse_, first, any}
+use Rattle.closing.specs.Find.{guard, _orElse_, first, any}
 
 -- whatever o finds satisfies P
 pub record Finds (P : Fact → Type 0) (o : Option Fact) : Type 0 where

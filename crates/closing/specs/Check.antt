@@ -6,7 +6,7 @@ use Rattle.board.specs.declared.Board.{Board}
 use Rattle.board.specs.Paper.View.{view}
 use Rattle.board.specs.Tests.Limits.{withinLimits, booksLimits}
 use Rattle.board.specs.Paper.Facts.{Fact}
-use Rattle.closure.specs.Find.{find}
+use Rattle.closing.specs.Find.{find}
 
 -- nothing is left to infer
 unfoldable pub nothingLeft : Option Fact → Bool

@@ -18,13 +18,13 @@ use Rattle.board.specs.Paper.Closed.{Closed, Least}
 use Rattle.board.specs.Order.Leastness.{handed-in}
 use Rattle.board.specs.Inference.Agrees.{obeys-rules, rules-obey}
 use Rattle.board.specs.Update.Reaches.{reached-self}
-use Rattle.closure.specs.Find.{find}
-use Rattle.closure.specs.FindSound.{find-sound}
-use Rattle.closure.specs.FindComplete.{find-complete}
-use Rattle.closure.specs.Closing.{closure}
-use Rattle.closure.specs.Closes.{lengths}
-use Rattle.closure.specs.Stepping.{reached-closure}
-use Rattle.closure.specs.Check.{nothingLeft, passes}
+use Rattle.closing.specs.Find.{find}
+use Rattle.closing.specs.FindSound.{find-sound}
+use Rattle.closing.specs.FindComplete.{find-complete}
+use Rattle.closing.specs.Closing.{closure}
+use Rattle.closing.specs.Closes.{lengths}
+use Rattle.closing.specs.Stepping.{reached-closure}
+use Rattle.closing.specs.Check.{nothingLeft, passes}
 
 settled-none : (o : Option Fact) → nothingLeft o ≡ true → o ≡ none
 unfolding nothingLeft

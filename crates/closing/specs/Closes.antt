@@ -18,11 +18,11 @@ use Rattle.board.specs.Update.Compose.{extends-then, one-outcome}
 use Rattle.board.specs.Update.Updates.{update, _andThen_}
 use Rattle.board.specs.Update.Updated.{updated}
 use Rattle.board.specs.Update.Reaches.{infers-known}
-use Rattle.closure.specs.Find.{find}
-use Rattle.closure.specs.FindSound.{find-sound}
-use Rattle.closure.specs.FindComplete.{find-complete}
-use Rattle.closure.specs.Measure.{measure, measure-falls, measure-bound}
-use Rattle.closure.specs.Closing.{close, closure}
+use Rattle.closing.specs.Find.{find}
+use Rattle.closing.specs.FindSound.{find-sound}
+use Rattle.closing.specs.FindComplete.{find-complete}
+use Rattle.closing.specs.Measure.{measure, measure-falls, measure-bound}
+use Rattle.closing.specs.Closing.{close, closure}
 
 -- the outcome of closing b: the least board above b that obeys the rules; or none, where no view above b does
 abbrev pub ClosedTo : Board → Option Board → Type 0

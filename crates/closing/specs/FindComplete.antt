@@ -12,10 +12,10 @@ use Rattle.board.specs.Paper.View.{View, Live, Valid, Side, early, late, bound,
 use Rattle.board.specs.Paper.Facts.{Fact}
 use Rattle.board.specs.Paper.Rules.{energy}
 use Rattle.board.specs.Inference.Infers.{Pushing, r1, r2, r3, r45, r6, Obeys}
-use Rattle.energy.specs.SumBeyond.{SumBeyond, pushing-sum}
-use Rattle.closure.specs.Find.{_orElse_, pushers, pushed, push, next, find}
-use Rattle.closure.specs.FindTests.{room-is, exclude-is, order-is, join-is, pusher-is, push-is}
-use Rattle.closure.specs.Search.{guard-none, orElse-none, first-none}
+use Rattle.board.specs.Inference.SumBeyond.{SumBeyond, pushing-sum}
+use Rattle.closing.specs.Find.{_orElse_, pushers, pushed, push, next, find}
+use Rattle.closing.specs.FindTests.{room-is, exclude-is, order-is, join-is, pusher-is, push-is}
+use Rattle.closing.specs.Search.{guard-none, orElse-none, first-none}
 
 -- no part of `next` finds anything
 record Nothing (a b c d e f : Option Fact) : Type 0 where

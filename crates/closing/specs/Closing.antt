@@ -5,7 +5,7 @@ use Rattle.board.specs.declared.Board.{Board}
 use Rattle.board.specs.Paper.View.{view}
 use Rattle.board.specs.Paper.Limits.{jobLimit}
 use Rattle.board.specs.Update.Updates.{update, _andThen_}
-use Rattle.closure.specs.Find.{find}
+use Rattle.closing.specs.Find.{find}
 
 -- Each inference uses up a minute of a window, an arc or a live job, so that there are never more steps than this.
 abbrev pub steps : ℕ

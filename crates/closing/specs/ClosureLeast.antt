@@ -9,8 +9,8 @@ use Rattle.board.specs.Paper.Entries.{Entries, shown}
 use Rattle.board.specs.Paper.Closed.{Least, Contradiction}
 use Rattle.board.specs.Order.Leastness.{below-least, impossible-contradiction}
 use Rattle.board.specs.Inference.Agrees.{obeys-rules}
-use Rattle.closure.specs.Closing.{closure}
-use Rattle.closure.specs.Closes.{ClosedTo, closure-closes}
+use Rattle.closing.specs.Closing.{closure}
+use Rattle.closing.specs.Closes.{ClosedTo, closure-closes}
 
 abbrev pub LeastOrNone : Entries → Option Board → Type 0
 LeastOrNone es (some c) = Least es c

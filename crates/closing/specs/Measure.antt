@@ -19,8 +19,8 @@ use Rattle.board.specs.Update.Extension.{Above}
 use Rattle.board.specs.Paper.Tests.{live}
 use Rattle.board.specs.Tests.Live.{live-yes, live-show}
 use Rattle.board.specs.Tests.Decides.{Decides, _and_, negated, holds, live-is}
-use Rattle.precedence.specs.Bounds.{bound-time}
-use Rattle.closure.specs.Closing.{steps}
+use Rattle.board.specs.Tests.Bounds.{bound-time}
+use Rattle.closing.specs.Closing.{steps}
 
 -- the minutes by which a bound can still rise
 abbrev slack : Side → Row → ℕ

@@ -11,9 +11,9 @@ use Rattle.board.specs.Update.Extension.{Updated}
 use Rattle.board.specs.Update.Updates.{update}
 use Rattle.board.specs.Update.Updated.{updated}
 use Rattle.board.specs.Update.Reaches.{infers-known, Reaches, Reached, further}
-use Rattle.closure.specs.Measure.{measure, measure-falls}
-use Rattle.closure.specs.Closing.{closure}
-use Rattle.closure.specs.Closes.{ClosedTo, closure-is}
+use Rattle.closing.specs.Measure.{measure, measure-falls}
+use Rattle.closing.specs.Closing.{closure}
+use Rattle.closing.specs.Closes.{ClosedTo, closure-is}
 
 -- there is no board
 pub reaches-closure : (b : Board) → Within b → Reaches b none → none ≡ closure b

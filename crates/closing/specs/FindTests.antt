@@ -12,8 +12,8 @@ use Rattle.board.specs.Paper.Rules.{E, D, L}
 use Rattle.board.specs.Paper.Tests.{live, valid}
 use Rattle.board.specs.Tests.Live.{roomy}
 use Rattle.board.specs.Tests.Decides.{Decides, _and_, negated, holds, eq, live-is, valid-is, at-most, earlier, not-at-most}
-use Rattle.closure.specs.Find.{beyond, tooLate, joined, pushers, pushed}
-use Rattle.closure.specs.Search.{some-below}
+use Rattle.closing.specs.Find.{beyond, tooLate, joined, pushers, pushed}
+use Rattle.closing.specs.Search.{some-below}
 
 module _ (v : View) where
   beyond-is : (s : Side) (k j : ℕ) → Decides (beyond v s k j) (Beyond v s k j)

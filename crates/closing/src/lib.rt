@@ -1,0 +1,1 @@
+// The closure as mathematics: definitions and theorems, no code.
