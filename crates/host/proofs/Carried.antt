@@ -40,22 +40,25 @@ abbrev pub theirs : (p : Mode) (m : ℕ) → Lfts (lifetimes p m) → Lfts m
 theirs by-value m κs = κs
 theirs by-reference m κs = κs .1
 
--- One argument: what it stands for, its machine value and what it owns; and its place in a signature of either mode, where it
--- stands for the same, owns the same, and is at the exit as it was passed.
+-- One argument: what it stands for, its machine value and what it owns; and the same in a signature of either mode.
 pub record Carried (m : ℕ) : Type 2 where
   pub Value : Type 0
   pub val : Value → Val
   pub own : Lfts m → Value → Fml
+  -- its place, and the type of its local
   pub slot : (p : Mode) → Slot (lifetimes p m)
   pub ty : Mode → Ty
+  -- what is passed there stands for a value, and any value can be passed
   pub read : (p : Mode) (κs : Lfts (lifetimes p m)) → slot p .row κs .Denot → Value
   pub made : (p : Mode) (κs : Lfts (lifetimes p m)) → Value → slot p .row κs .Denot
   pub read-made : (p : Mode) (κs : Lfts (lifetimes p m)) (z : Value) → read p κs (made p κs z) ≡ z
+  -- it has the value's machine value, of the local's type, and is at the exit as it was passed
   pub tells : (p : Mode) (κs : Lfts (lifetimes p m)) → Tells (slot p .row κs) (Is (slot p .row κs)) (λ x. val (read p κs x) ∷ [])
   pub typed : {M : Type 1} (𝓤 : URA M) (H : Heap 𝓤) (A : Atoms 𝓤) → Given 𝓤 H A → (p : Mode) (κs : Lfts (lifetimes p m))
       (x : slot p .row κs .Denot) → Is (slot p .row κs) x (val (read p κs x) ∷ [])
       → T (hasTy (ty p) (val (read p κs x))) × WT (val (read p κs x))
   pub still : (p : Mode) (κs : Lfts (lifetimes p m)) → slot p .row κs .exit yes ≡ unchanged
+  -- and it owns what the value owns
   pub gives : {M : Type 1} (𝓤 : URA M) (H : Heap 𝓤) (A : Atoms 𝓤) (p : Mode) (κs : Lfts (lifetimes p m)) (x : slot p .row κs .Denot)
       → ent 𝓤 (sem 𝓤 H A (slot p .row κs .own x (val (read p κs x) ∷ []))) (sem 𝓤 H A (own (theirs p m κs) (read p κs x)))
   pub takes : {M : Type 1} (𝓤 : URA M) (H : Heap 𝓤) (A : Atoms 𝓤) (p : Mode) (κs : Lfts (lifetimes p m)) (z : Value)
