@@ -1,6 +1,7 @@
 // The attempt of an entry: what it states is put on a board's arrays, and the board that shows it is closed, all in place.
 use board::Board;
 use closure::close::closure;
+use propagation::agenda::Agenda;
 use statements::stated::Stated;
 use statements::stated::due_to;
 use statements::stated::jobs_with;
@@ -35,7 +36,7 @@ pub fn attempt(
     ) {
         return false;
     }
-    let due = due_to(jobs, marks, after, before, stated);
+    let due: Agenda = due_to(jobs, marks, after, before, stated);
     let with_it = jobs_with(jobs, stated);
     closure(
         with_it,
