@@ -32,10 +32,10 @@ use Rattle.host.proofs.Carried.{by-reference, Carried}
 use Rattle.host.proofs.Cells.{locals, count, past, copies, other, alloc-all, pass-all, free-all, look-all}
 use Rattle.host.proofs.Handed.{answer, both}
 use Rattle.host.proofs.InPlace as in-place
-use Rattle.exports.specs.Replies.{entryReply}
+use Rattle.reply_numbers.specs.Replies.{entryReply}
 use Rattle.exports.proofs.Replied.{reply, Follows, ToReply, replies}
-use Rattle.exports.proofs.replies.entry_reply.Met as reply-met
-use Rattle.exports.proofs.replies.entry_reply.Symbol as entry-reply
+use Rattle.reply_numbers.proofs.entry_reply.Met as reply-met
+use Rattle.reply_numbers.proofs.entry_reply.Symbol as entry-reply
 
 module _ {m : ℕ} (cs : List (Carried m)) (stated : Values cs → Entry) where
   abbrev Entering : Board → Values cs → Answer → Board → Type 0

@@ -29,10 +29,10 @@ use Rattle.host.proofs.Called.{ByValue, arguments, calls, alone}
 use Rattle.host.proofs.Carried.{by-reference, Carried, value}
 use Rattle.host.proofs.Handed.{answer}
 use Rattle.host.proofs.Plain.{Plain, struct}
-use Rattle.exports.specs.declared.replies.Reply.{Reply}
-use Rattle.exports.specs.Replies.{Replied, entryReply}
-use Rattle.exports.proofs.replies.Reply as R
-use Rattle.exports.proofs.replies.Reply.Laws as R′
+use Rattle.reply_numbers.specs.declared.Reply.{Reply}
+use Rattle.reply_numbers.specs.Replies.{Replied, entryReply}
+use Rattle.reply_numbers.proofs.Reply as R
+use Rattle.reply_numbers.proofs.Reply.Laws as R′
 
 abbrev pub reply : Plain
 reply = struct R.the-type R′.the-laws R′.the-plain R′.the-copy

@@ -1,5 +1,2 @@
--- The replies of the exported calls in numbers, what is known of them, and who may go on calling.
-pub mod Replies
-pub mod Exact
-pub mod Table
+-- Who may go on calling without check 0.
 pub mod Passing

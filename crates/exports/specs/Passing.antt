@@ -11,7 +11,7 @@ use Rattle.closing.specs.Checked as checked
 use Rattle.entries.specs.Paper.Entry.{Entry}
 use Rattle.entries.specs.Paper.Enter.{enter}
 use Rattle.entries.specs.Later.{call-later}
-use Rattle.exports.specs.Replies.{replied}
+use Rattle.reply_numbers.specs.Replies.{replied}
 
 pub empty-passes : passes (emptyBoard emptyBooks) ≡ true
 empty-passes = checked.empty-passes emptyBooks within-emptyBooks

@@ -1,16 +1,16 @@
 // The calls by value with their replies in numbers; check 0 is among their checks.
-use crate::replies::PairReply;
-use crate::replies::PlanReply;
-use crate::replies::RowReply;
-use crate::replies::pair_reply;
-use crate::replies::plan_reply;
-use crate::replies::row_reply;
 use dock::Dock;
+use reply_numbers::PairReply;
+use reply_numbers::PlanReply;
+use reply_numbers::RowReply;
+use reply_numbers::pair_reply;
+use reply_numbers::plan_reply;
+use reply_numbers::row_reply;
 ghost use mathlib.Core.Path.{_≡_};
 ghost use Rattle.closing.specs.Check as check;
 ghost use Rattle.entries.specs.Paper.Looking as looking;
 ghost use Rattle.tries.specs.Paper.Planner as planning;
-ghost use Rattle.exports.specs.Replies.{rowReply, pairReply, planReply};
+ghost use Rattle.reply_numbers.specs.Replies.{rowReply, pairReply, planReply};
 
 pub fn passes(dock: Dock) -> bool
     ensures { λ r. ⌜ r ≡ check.passes (dock .board) ⌝ }

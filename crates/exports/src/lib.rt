@@ -1,12 +1,12 @@
 // The calls for a host in C or Rust that keeps the board: they alter it where it is kept, or look at it there, and their replies are
 // structs of numbers. Any board may be handed in; check 0 is among their checks.
-use crate::replies::PairReply;
-use crate::replies::PlanReply;
-use crate::replies::Reply;
-use crate::replies::RowReply;
-use crate::replies::entry_reply;
 use board::Board;
 use dock::Dock;
+use reply_numbers::PairReply;
+use reply_numbers::PlanReply;
+use reply_numbers::Reply;
+use reply_numbers::RowReply;
+use reply_numbers::entry_reply;
 ghost use mathlib.Core.Path.{_≡_};
 ghost use Rattle.board.specs.Paper.Limits.{emptyBoard};
 ghost use Rattle.board.specs.Paper.Parts.{emptyBooks};
@@ -15,10 +15,9 @@ ghost use Rattle.entries.specs.Paper.Entry as entry;
 ghost use Rattle.entries.specs.Paper.Enter as paper;
 ghost use Rattle.entries.specs.Paper.Looking as looking;
 ghost use Rattle.tries.specs.Paper.Planner as planning;
-ghost use Rattle.exports.specs.Replies.{replied, rowReply, pairReply, planReply};
+ghost use Rattle.reply_numbers.specs.Replies.{replied, rowReply, pairReply, planReply};
 
 mod by_value;
-pub mod replies;
 pub mod unchecked;
 
 // A board without jobs whose tally starts at 0.

@@ -1,13 +1,13 @@
 // The same calls without check 0: they require a board that passes it and don't test it, so that a host in C has to see to that.
 // The empty board passes, and what a call leaves of a board that passes: `empty-passes` and `left-passes` in specs/Passing.antt.
-use crate::replies::PairReply;
-use crate::replies::PlanReply;
-use crate::replies::Reply;
-use crate::replies::RowReply;
-use crate::replies::entry_reply;
 use board::Board;
 use dock::Dock;
 use entries::Entry;
+use reply_numbers::PairReply;
+use reply_numbers::PlanReply;
+use reply_numbers::Reply;
+use reply_numbers::RowReply;
+use reply_numbers::entry_reply;
 ghost use mathlib.Core.Path.{_≡_};
 ghost use mathlib.Core.Bool.{true};
 ghost use Rattle.closing.specs.Check.{passes};
@@ -16,7 +16,7 @@ ghost use Rattle.entries.specs.Paper.Enter as paper;
 ghost use Rattle.entries.specs.Paper.Looking as looking;
 ghost use Rattle.entries.specs.Paper.Values.{entryOf};
 ghost use Rattle.tries.specs.Paper.Planner as planning;
-ghost use Rattle.exports.specs.Replies.{replied, rowReply, pairReply, planReply};
+ghost use Rattle.reply_numbers.specs.Replies.{replied, rowReply, pairReply, planReply};
 
 mod by_value;
 

@@ -5,7 +5,7 @@ use Rattle.host.proofs.addition.Met.{met}
 use Rattle.host.proofs.addition.Symbol as in-place
 use Rattle.host.proofs.Called.{holds}
 use Rattle.host.proofs.Carried.{numbers}
-use Rattle.exports.specs.Replies.{replied}
+use Rattle.reply_numbers.specs.Replies.{replied}
 use Rattle.exports.proofs.Relayed.{law}
 use Rattle.exports.proofs.bayboard_addition as addition
 use Rattle.exports.proofs.bayboard_addition.Code as code
@@ -18,4 +18,4 @@ bayboard-addition-spec 𝓤 H 𝓜 𝓖 𝓡 =
     law (numbers 4) (λ z. entry.addition (z .0) (z .1 .0) (z .1 .1 .0) (z .1 .1 .1 .0)) 𝓤 H 𝓜 𝓖 𝓡
     (λ κs a. addition.clauses 𝓤 H (𝓖 .A) (𝓜 .mem) (𝓡 .run) κs a .ensures) (λ κs a e p. holds 𝓤 (ap replied p))
     code.env name in-place.name in-place.routine (code.unfolded 𝓤 H 𝓜 𝓡) code.calls-host·addition
-    code.calls-exports·replies·entry-reply (met 𝓤 H 𝓜 𝓖 𝓡)
+    code.calls-reply-numbers·entry-reply (met 𝓤 H 𝓜 𝓖 𝓡)

@@ -5,7 +5,7 @@ use Rattle.host.proofs.arc.Met.{met}
 use Rattle.host.proofs.arc.Symbol as in-place
 use Rattle.host.proofs.Called.{holds}
 use Rattle.host.proofs.Carried.{numbers}
-use Rattle.exports.specs.Replies.{replied}
+use Rattle.reply_numbers.specs.Replies.{replied}
 use Rattle.exports.proofs.Relayed.{law}
 use Rattle.exports.proofs.bayboard_arc as arc
 use Rattle.exports.proofs.bayboard_arc.Code as code
@@ -18,4 +18,4 @@ bayboard-arc-spec 𝓤 H 𝓜 𝓖 𝓡 =
     law (numbers 2) (λ z. entry.other (entry.arc (z .0) (z .1 .0))) 𝓤 H 𝓜 𝓖 𝓡
     (λ κs a. arc.clauses 𝓤 H (𝓖 .A) (𝓜 .mem) (𝓡 .run) κs a .ensures) (λ κs a e p. holds 𝓤 (ap replied p))
     code.env name in-place.name in-place.routine (code.unfolded 𝓤 H 𝓜 𝓡) code.calls-host·arc
-    code.calls-exports·replies·entry-reply (met 𝓤 H 𝓜 𝓖 𝓡)
+    code.calls-reply-numbers·entry-reply (met 𝓤 H 𝓜 𝓖 𝓡)

@@ -6,9 +6,9 @@ use Rattle.host.proofs.Called.{holds}
 use Rattle.host.proofs.Carried.{numbers}
 use Rattle.host.proofs.Looked.{law}
 use Rattle.host.proofs.Plain.{struct}
-use Rattle.exports.specs.Replies.{pairReply}
-use Rattle.exports.proofs.replies.PairReply as T
-use Rattle.exports.proofs.replies.PairReply.Laws as T′
+use Rattle.reply_numbers.specs.Replies.{pairReply}
+use Rattle.reply_numbers.proofs.PairReply as T
+use Rattle.reply_numbers.proofs.PairReply.Laws as T′
 use Rattle.exports.proofs.by_value.pair.Met.{met}
 use Rattle.exports.proofs.by_value.pair.Symbol as by-value
 use Rattle.exports.proofs.bayboard_pair as pair

@@ -1,17 +1,17 @@
 // The calls by value without check 0, on a board that passes it, with their replies in numbers.
-use crate::replies::PairReply;
-use crate::replies::PlanReply;
-use crate::replies::RowReply;
-use crate::replies::pair_reply;
-use crate::replies::plan_reply;
-use crate::replies::row_reply;
 use dock::Dock;
+use reply_numbers::PairReply;
+use reply_numbers::PlanReply;
+use reply_numbers::RowReply;
+use reply_numbers::pair_reply;
+use reply_numbers::plan_reply;
+use reply_numbers::row_reply;
 ghost use mathlib.Core.Path.{_≡_};
 ghost use mathlib.Core.Bool.{true};
 ghost use Rattle.closing.specs.Check.{passes};
 ghost use Rattle.entries.specs.Paper.Looking as looking;
 ghost use Rattle.tries.specs.Paper.Planner as planning;
-ghost use Rattle.exports.specs.Replies.{rowReply, pairReply, planReply};
+ghost use Rattle.reply_numbers.specs.Replies.{rowReply, pairReply, planReply};
 
 pub fn row(dock: Dock, job: i32) -> RowReply
     requires { ⌜ passes (dock .board) ≡ true ⌝ }

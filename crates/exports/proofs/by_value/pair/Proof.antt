@@ -2,7 +2,7 @@
 use mathlib.Core.Path.{_∙_, ap}
 use borrow.Author.Needs.{needs}
 use mir.ValLaws.{toZ-ofZ}
-use Rattle.exports.specs.Replies.{pairReply}
+use Rattle.reply_numbers.specs.Replies.{pairReply}
 use Rattle.exports.proofs.by_value.pair.Statement.{statement}
 use Rattle.exports.proofs.by_value.pair.Tie as tie
 

@@ -2,7 +2,7 @@
 use mathlib.Core.Path.{_∙_, ap}
 use borrow.Author.Needs.{needs}
 use mir.ValLaws.{toZ-ofZ}
-use Rattle.exports.specs.Replies.{rowReply}
+use Rattle.reply_numbers.specs.Replies.{rowReply}
 use Rattle.exports.proofs.by_value.row.Statement.{statement}
 use Rattle.exports.proofs.by_value.row.Tie as tie
 

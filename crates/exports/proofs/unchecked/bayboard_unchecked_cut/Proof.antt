@@ -12,7 +12,7 @@ use Rattle.host.proofs.Called.{holds}
 use Rattle.host.proofs.Carried.{numbers}
 use Rattle.host.proofs.Handed.{entry}
 use Rattle.host.proofs.Named.{law}
-use Rattle.exports.specs.Replies.{replied}
+use Rattle.reply_numbers.specs.Replies.{replied}
 use Rattle.exports.proofs.Passing.{Passing}
 use Rattle.exports.proofs.Replied.{reply, both}
 use Rattle.exports.proofs.unchecked.enter.Met as entered

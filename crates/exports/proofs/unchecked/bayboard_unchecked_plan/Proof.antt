@@ -6,10 +6,10 @@ use Rattle.host.proofs.Called.{holds}
 use Rattle.host.proofs.Carried.{numbers}
 use Rattle.host.proofs.Looked.{law}
 use Rattle.host.proofs.Plain.{struct}
-use Rattle.exports.specs.Replies.{planReply}
+use Rattle.reply_numbers.specs.Replies.{planReply}
 use Rattle.exports.proofs.Passing.{Passing}
-use Rattle.exports.proofs.replies.PlanReply as T
-use Rattle.exports.proofs.replies.PlanReply.Laws as T′
+use Rattle.reply_numbers.proofs.PlanReply as T
+use Rattle.reply_numbers.proofs.PlanReply.Laws as T′
 use Rattle.exports.proofs.unchecked.by_value.plan.Met.{met}
 use Rattle.exports.proofs.unchecked.by_value.plan.Symbol as by-value
 use Rattle.exports.proofs.unchecked.bayboard_unchecked_plan as plan

@@ -6,10 +6,10 @@ use Rattle.host.proofs.Called.{holds}
 use Rattle.host.proofs.Carried.{numbers}
 use Rattle.host.proofs.Looked.{law}
 use Rattle.host.proofs.Plain.{struct}
-use Rattle.exports.specs.Replies.{rowReply}
+use Rattle.reply_numbers.specs.Replies.{rowReply}
 use Rattle.exports.proofs.Passing.{Passing}
-use Rattle.exports.proofs.replies.RowReply as T
-use Rattle.exports.proofs.replies.RowReply.Laws as T′
+use Rattle.reply_numbers.proofs.RowReply as T
+use Rattle.reply_numbers.proofs.RowReply.Laws as T′
 use Rattle.exports.proofs.unchecked.by_value.row.Met.{met}
 use Rattle.exports.proofs.unchecked.by_value.row.Symbol as by-value
 use Rattle.exports.proofs.unchecked.bayboard_unchecked_row as row

@@ -7,7 +7,7 @@ use Rattle.calls.proofs.enter.Symbol as by-value
 use Rattle.host.proofs.Called.{holds}
 use Rattle.host.proofs.Carried.{value}
 use Rattle.host.proofs.Handed.{entry}
-use Rattle.exports.specs.Replies.{replied}
+use Rattle.reply_numbers.specs.Replies.{replied}
 use Rattle.exports.proofs.Stored.{law}
 use Rattle.exports.proofs.unchecked.enter as enter
 use Rattle.exports.proofs.unchecked.enter.Code as code
@@ -20,4 +20,4 @@ enter-spec 𝓤 H 𝓜 𝓖 𝓡 =
     law (value entry ∷ []) (λ z. entryOf (z .0)) 𝓤 H 𝓜 𝓖 𝓡
     (λ κs a. enter.clauses 𝓤 H (𝓖 .A) (𝓜 .mem) (𝓡 .run) κs a .ensures) (λ κs a e p. holds 𝓤 (ap replied p))
     code.env name by-value.name by-value.routine (code.unfolded 𝓤 H 𝓜 𝓡) code.calls-calls·enter
-    code.calls-exports·replies·entry-reply (met 𝓤 H 𝓜 𝓖 𝓡)
+    code.calls-reply-numbers·entry-reply (met 𝓤 H 𝓜 𝓖 𝓡)

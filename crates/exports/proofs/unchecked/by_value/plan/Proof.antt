@@ -2,7 +2,7 @@
 use mathlib.Core.Path.{_∙_, ap}
 use borrow.Author.Needs.{needs}
 use mir.ValLaws.{toZ-ofZ}
-use Rattle.exports.specs.Replies.{planReply}
+use Rattle.reply_numbers.specs.Replies.{planReply}
 use Rattle.exports.proofs.unchecked.by_value.plan.Statement.{statement}
 use Rattle.exports.proofs.unchecked.by_value.plan.Tie as tie
 

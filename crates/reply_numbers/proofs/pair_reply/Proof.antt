@@ -3,8 +3,8 @@ use borrow.Author.Needs.{needs}
 use mir.Syntax.{w32}
 use mir.Val.{SFits}
 use mir.ValLaws.{toZ-ofZ}
-use Rattle.exports.proofs.replies.pair_reply.Statement.{statement}
-use Rattle.exports.proofs.replies.pair_reply.Tie as tie
+use Rattle.reply_numbers.proofs.pair_reply.Statement.{statement}
+use Rattle.reply_numbers.proofs.pair_reply.Tie as tie
 
 enum-known-pair : tie.Need-enum-known-pair
 enum-known-pair c = search needs

@@ -3,8 +3,8 @@ use borrow.Author.Needs.{needs}
 use mir.Syntax.{w32}
 use mir.Val.{SFits}
 use mir.ValLaws.{toZ-ofZ}
-use Rattle.exports.proofs.replies.row_reply.Statement.{statement}
-use Rattle.exports.proofs.replies.row_reply.Tie as tie
+use Rattle.reply_numbers.proofs.row_reply.Statement.{statement}
+use Rattle.reply_numbers.proofs.row_reply.Tie as tie
 
 enum-known-row : tie.Need-enum-known-row
 enum-known-row c = search needs

@@ -1,7 +1,7 @@
 -- `replies::plan_reply` meets its contract, field by field. Assumes nothing.
 use borrow.Author.Needs.{needs}
-use Rattle.exports.proofs.replies.plan_reply.Statement.{statement}
-use Rattle.exports.proofs.replies.plan_reply.Tie as tie
+use Rattle.reply_numbers.proofs.plan_reply.Statement.{statement}
+use Rattle.reply_numbers.proofs.plan_reply.Tie as tie
 
 ending-requires : tie.Need-ending-requires
 ending-requires c κs = search needs

@@ -23,7 +23,7 @@ use Rattle.tries.specs.Paper.Answers.{planReplyOf}
 use Rattle.tries.specs.Paper.Planner as Planner
 use Rattle.promises.specs.Demand1Holds.{demand1}
 use Rattle.promises.specs.Paper.Requests.{entry, row, pair, plan, a-row, a-pair, a-plan, sortOf, refusalsOf, entryRefusal, rowRefusal, pairRefusal, planRefusal}
-use Rattle.exports.specs.Replies.{entryReply, rowReply, pairReply, planReply}
+use Rattle.reply_numbers.specs.Replies.{entryReply, rowReply, pairReply, planReply}
 
 -- a reply that isn't accepted has the number of the refusal
 entry-number : (a : Answer) → entryReply a .accepted ≡ false → entryRefusal (replyOf a) ≡ some (entryReply a .number)

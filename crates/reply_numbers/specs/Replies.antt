@@ -14,10 +14,10 @@ use Rattle.entries.specs.declared.PairAnswer.the-variants as Pairs
 use Rattle.tries.specs.declared.PlanAnswer.{PlanAnswer}
 use Rattle.tries.specs.declared.PlanAnswer.the-variants as Plans
 use Rattle.tries.specs.declared.Planned.{Planned}
-use Rattle.exports.specs.declared.replies.Reply.{Reply}
-use Rattle.exports.specs.declared.replies.RowReply.{RowReply}
-use Rattle.exports.specs.declared.replies.PairReply.{PairReply}
-use Rattle.exports.specs.declared.replies.PlanReply.{PlanReply}
+use Rattle.reply_numbers.specs.declared.Reply.{Reply}
+use Rattle.reply_numbers.specs.declared.RowReply.{RowReply}
+use Rattle.reply_numbers.specs.declared.PairReply.{PairReply}
+use Rattle.reply_numbers.specs.declared.PlanReply.{PlanReply}
 
 -- "`(ok K)` for an addition, K its number; `(ok)`; `(no R)` with refusal R"
 abbrev pub entryReply : Answer → Reply

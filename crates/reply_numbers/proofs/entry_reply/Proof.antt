@@ -1,7 +1,7 @@
 -- `replies::entry_reply` meets its contract, case by case. Assumes nothing.
 use borrow.Author.Needs.{needs}
-use Rattle.exports.proofs.replies.entry_reply.Statement.{statement}
-use Rattle.exports.proofs.replies.entry_reply.Tie as tie
+use Rattle.reply_numbers.proofs.entry_reply.Statement.{statement}
+use Rattle.reply_numbers.proofs.entry_reply.Tie as tie
 
 enum-known-answer : tie.Need-enum-known-answer
 enum-known-answer c = search needs

@@ -22,11 +22,11 @@ use Rattle.entries.specs.Paper.Enter.{acceptance, concluded, judged, closureWit
 use Rattle.tries.specs.declared.PlanAnswer.{PlanAnswer}
 use Rattle.tries.specs.declared.PlanAnswer.the-variants as Plans
 use Rattle.tries.specs.declared.Planned.{Planned}
-use Rattle.exports.specs.declared.replies.Reply.{Reply}
-use Rattle.exports.specs.declared.replies.RowReply.{RowReply}
-use Rattle.exports.specs.declared.replies.PairReply.{PairReply}
-use Rattle.exports.specs.declared.replies.PlanReply.{PlanReply}
-use Rattle.exports.specs.Replies.{entryReply, rowReply, pairReply, ending, planNumber, planReply}
+use Rattle.reply_numbers.specs.declared.Reply.{Reply}
+use Rattle.reply_numbers.specs.declared.RowReply.{RowReply}
+use Rattle.reply_numbers.specs.declared.PairReply.{PairReply}
+use Rattle.reply_numbers.specs.declared.PlanReply.{PlanReply}
+use Rattle.reply_numbers.specs.Replies.{entryReply, rowReply, pairReply, ending, planNumber, planReply}
 
 -- the refusal with a number
 abbrev table : List Refusal

@@ -6,7 +6,7 @@ use entries::RowAnswer;
 use tries::PlanAnswer;
 use tries::Planned;
 ghost use mathlib.Core.Path.{_≡_};
-ghost use Rattle.exports.specs.Replies as said;
+ghost use Rattle.reply_numbers.specs.Replies as said;
 
 // To an entry. Accepted: the number of the job added, or 0 where nothing was added. Otherwise the refusal's number.
 #[repr(C)]
