@@ -1,6 +1,7 @@
 -- `text::start` meets its contract. Assumes nothing.
-use native.Mathlib.Omega.{arith}
 use borrow.Author.Needs.{needs}
+use Rattle.board.specs.Paper.Parts.{emptyBooks}
+use Rattle.board.specs.Tests.Empty.{within-emptyBooks}
 use Rattle.closing.specs.Checked.{empty-passes}
 use Rattle.text.specs.Load.{overloaded-answers, loaded-answers}
 use Rattle.text.proofs.start.Statement.{statement}
@@ -22,7 +23,7 @@ empty-requires-2 : tie.Need-empty-requires-2
 empty-requires-2 c κs = search needs
 
 next-requires : tie.Need-next-requires
-next-requires c κs = (rw (c .before .empty2 .ensures) (empty-passes 0 (omega arith)), search needs)
+next-requires c κs = (rw (c .before .empty2 .ensures) (empty-passes emptyBooks within-emptyBooks), search needs)
 
 same-length-2 : tie.Need-same-length-2
 same-length-2 c = search needs
