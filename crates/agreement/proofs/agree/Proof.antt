@@ -5,12 +5,6 @@ use Rattle.agreement.specs.Agreement.{agree-same}
 use Rattle.agreement.proofs.agree.Statement.{statement}
 use Rattle.agreement.proofs.agree.Tie as tie
 
-transpose-requires : tie.Need-transpose-requires
-transpose-requires c κs = search needs
-
-same-words-requires : tie.Need-same-words-requires
-same-words-requires c κs = search needs
-
 returns : tie.Need-returns
 returns c =
     let start = c .before .before .before in
@@ -18,4 +12,4 @@ returns c =
     (c .before .before .transpose .ensures) (c .same-words .ensures)
 
 pub agree-spec : {M : Type 1} → statement M
-agree-spec = tie.close (tie.spec transpose-requires same-words-requires returns)
+agree-spec = tie.close (tie.spec (λ c κs. search needs) (λ c κs. search needs) returns)

@@ -22,27 +22,6 @@ abbrev μ-loop : tie.MeasureT-loop
 loop-holds : tie.Need-loop-holds Inv-loop μ-loop
 loop-holds c = (search needs, passed λ j l. absurd (omega arith))
 
-mul-differences : tie.Need-mul-differences Inv-loop μ-loop
-mul-differences c = search needs
-
-element-copy-out-differences : tie.Need-element-copy-out-differences Inv-loop μ-loop
-element-copy-out-differences c = search needs
-
-mul-differences-2 : tie.Need-mul-differences-2 Inv-loop μ-loop
-mul-differences-2 c = search needs
-
-element-copy-out-differences-2 : tie.Need-element-copy-out-differences-2 Inv-loop μ-loop
-element-copy-out-differences-2 c = search needs
-
-differences-requires : tie.Need-differences-requires Inv-loop μ-loop
-differences-requires c κs = search needs
-
-add-i : tie.Need-add-i Inv-loop μ-loop
-add-i c = search needs
-
-loop-less : tie.Need-loop-less Inv-loop μ-loop
-loop-less c = search needs
-
 loop-again : tie.Need-loop-again Inv-loop μ-loop
 loop-again c =
     let at = c .before .before .before .before in
@@ -58,12 +37,12 @@ same-words-spec =
     Inv-loop
     μ-loop
     loop-holds
-    mul-differences
-    element-copy-out-differences
-    mul-differences-2
-    element-copy-out-differences-2
-    differences-requires
-    add-i
-    loop-less
+    (λ c. search needs)
+    (λ c. search needs)
+    (λ c. search needs)
+    (λ c. search needs)
+    (λ c κs. search needs)
+    (λ c. search needs)
+    (λ c. search needs)
     loop-again
     returns)

@@ -18,56 +18,20 @@ Inv-loop bytes out₀ board₀ written₀ read rest₀ out board written rest =
 abbrev μ-loop : tie.MeasureT-loop
 μ-loop bytes out₀ board₀ written₀ read rest₀ out board written rest = length rest
 
-large-buffer-requires : tie.Need-large-buffer-requires Inv-loop μ-loop
-large-buffer-requires c κs = search needs
-
-slice-aggregate-start : tie.Need-slice-aggregate-start Inv-loop μ-loop
-slice-aggregate-start c = search needs
-
-start-requires : tie.Need-start-requires Inv-loop μ-loop
-start-requires c κs = search needs
-
 sub-rest : tie.Need-sub-rest Inv-loop μ-loop
 sub-rest c = c .before .before .start .ensures .read
 
 part-rest-start : tie.Need-part-rest-start Inv-loop μ-loop
 part-rest-start c = c .before .before .start .ensures .read
 
-part-rest-end : tie.Need-part-rest-end Inv-loop μ-loop
-part-rest-end c = search needs
-
 loop-holds : tie.Need-loop-holds Inv-loop μ-loop
 loop-holds c = (c .before .before .before .start .kept .1 .0 ∙ sym (c .before .before .before .before .before .large-buffer .ensures), c .before .before .before .start .ensures .written, first-piece (c .before .before .before .start .ensures))
-
-sub-write-all : tie.Need-sub-write-all Inv-loop μ-loop
-sub-write-all c = search needs
-
-part-write-all-start : tie.Need-part-write-all-start Inv-loop μ-loop
-part-write-all-start c = search needs
-
-part-write-all-end : tie.Need-part-write-all-end Inv-loop μ-loop
-part-write-all-end c = search needs
-
-write-all-requires : tie.Need-write-all-requires Inv-loop μ-loop
-write-all-requires c κs = search needs
 
 returns : tie.Need-returns Inv-loop μ-loop
 returns c = λ e. all-answered (c .before .before .before .before .before .loop .inv .2) (c .if2 .taken)
 
-slice-aggregate-next : tie.Need-slice-aggregate-next Inv-loop μ-loop
-slice-aggregate-next c = search needs
-
 next-requires : tie.Need-next-requires Inv-loop μ-loop
 next-requires c κs = (pieces-pass (c .before .before .before .before .before .before .loop .inv .2 .given), omega (arith, c .before .before .before .before .before .before .loop .inv .0))
-
-sub-rest-2 : tie.Need-sub-rest-2 Inv-loop μ-loop
-sub-rest-2 c = search needs
-
-part-rest-start-2 : tie.Need-part-rest-start-2 Inv-loop μ-loop
-part-rest-start-2 c = search needs
-
-part-rest-end-2 : tie.Need-part-rest-end-2 Inv-loop μ-loop
-part-rest-end-2 c = search needs
 
 loop-less : tie.Need-loop-less Inv-loop μ-loop
 loop-less c =
@@ -87,23 +51,23 @@ answer-spec =
     (tie.spec
     Inv-loop
     μ-loop
-    large-buffer-requires
-    slice-aggregate-start
-    start-requires
+    (λ c κs. search needs)
+    (λ c. search needs)
+    (λ c κs. search needs)
     sub-rest
     part-rest-start
-    part-rest-end
+    (λ c. search needs)
     loop-holds
-    sub-write-all
-    part-write-all-start
-    part-write-all-end
-    write-all-requires
+    (λ c. search needs)
+    (λ c. search needs)
+    (λ c. search needs)
+    (λ c κs. search needs)
     returns
-    slice-aggregate-next
+    (λ c. search needs)
     next-requires
-    sub-rest-2
-    part-rest-start-2
-    part-rest-end-2
+    (λ c. search needs)
+    (λ c. search needs)
+    (λ c. search needs)
     loop-less
     loop-again
     returns-2)

@@ -9,9 +9,6 @@ use borrow.Author.Needs.{needs}
 use Rattle.energy.proofs.above.Statement.{statement}
 use Rattle.energy.proofs.above.Tie as tie
 
-turned-requires : tie.Need-turned-requires
-turned-requires c κs = search needs
-
 returns : tie.Need-returns
 returns c =
     let start = c .before .before in
@@ -24,4 +21,4 @@ returns-2 : tie.Need-returns-2
 returns-2 c = let lower = simp (toZ-ofZ, c .before .fits .floor, c .before .fits .best) at (c .if1 .left) in rw lower
 
 pub above-spec : {M : Type 1} → statement M
-above-spec = tie.close (tie.spec turned-requires returns returns-2)
+above-spec = tie.close (tie.spec (λ c κs. search needs) returns returns-2)

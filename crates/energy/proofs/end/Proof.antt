@@ -12,15 +12,6 @@ use Rattle.energy.specs.Laws.{length-fits, length-moderate}
 use Rattle.energy.proofs.end.Statement.{statement}
 use Rattle.energy.proofs.end.Tie as tie
 
-bound-requires : tie.Need-bound-requires
-bound-requires c κs = search needs
-
-mul-sum : tie.Need-mul-sum
-mul-sum c = search needs
-
-element-copy-out-sum : tie.Need-element-copy-out-sum
-element-copy-out-sum c = search needs
-
 -- the bound, as the machine reads it back from its bits
 low-is : (c : tie.After-bound)
     → toZ w32 (ofZ w32 (c .bound .result)) ≡ boundAt (sideOf (c .before .args .side)) (c .before .args .times .now) (c .before .args .k)
@@ -41,4 +32,4 @@ returns c =
     toZ-ofZ w32 _ (record { sfits = c .sum .ok }) ∙ simp (toZ-ofZ, length) at (rw (low-is (c .before .before)) at (c .sum .ensures))
 
 pub end-spec : {M : Type 1} → statement M
-end-spec = tie.close (tie.spec bound-requires mul-sum element-copy-out-sum sum-requires returns)
+end-spec = tie.close (tie.spec (λ c κs. search needs) (λ c. search needs) (λ c. search needs) sum-requires returns)

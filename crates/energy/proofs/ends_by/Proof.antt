@@ -12,12 +12,6 @@ use Rattle.energy.specs.Laws.{end-moderate, load-moderate, load-back}
 use Rattle.energy.proofs.ends_by.Statement.{statement}
 use Rattle.energy.proofs.ends_by.Tie as tie
 
-whole-requires : tie.Need-whole-requires
-whole-requires c κs = search needs
-
-end-requires : tie.Need-end-requires
-end-requires c κs = search needs
-
 -- the end and the lengths, as the machine reads them back from their bits
 end-is : (c : tie.After-end) → let a = c .before .before .args in
     toZ w32 (ofZ w32 (c .end .result)) ≡ endAt (sideOf (a .side)) (a .times .now) (a .lengths .now) (a .k)
@@ -33,20 +27,8 @@ sum-requires c κs =
     let (hours, work, _, _) = start .pre in
     rw (end-is (c .before), load-is c) (end-moderate (sideOf (start .args .side)) hours work (start .args .k), load-moderate work (start .args .set))
 
-turned-requires : tie.Need-turned-requires
-turned-requires c κs = search needs
-
 returns : tie.Need-returns
 returns c = λ e. absurd (refuted refl e)
-
-energy-bound-requires : tie.Need-energy-bound-requires
-energy-bound-requires c κs = search needs
-
-enum-told : tie.Need-enum-told
-enum-told c = search needs
-
-enum-told-2 : tie.Need-enum-told-2
-enum-told-2 c = search needs
 
 returns-2 : tie.Need-returns-2
 returns-2 c = λ _.
@@ -69,13 +51,13 @@ pub ends-by-spec : {M : Type 1} → statement M
 ends-by-spec =
     tie.close
     (tie.spec
-    whole-requires
-    end-requires
+    (λ c κs. search needs)
+    (λ c κs. search needs)
     sum-requires
-    turned-requires
+    (λ c κs. search needs)
     returns
-    energy-bound-requires
-    enum-told
-    enum-told-2
+    (λ c κs. search needs)
+    (λ c. search needs)
+    (λ c. search needs)
     returns-2
     returns-3)

@@ -23,12 +23,6 @@ Inv-loop side times lengths set floor low best₀ play₀ downward₀ best play 
 abbrev μ-loop : tie.MeasureT-loop
 μ-loop side times lengths set floor low best₀ play₀ downward₀ best play downward = play .set
 
-turned-requires : tie.Need-turned-requires Inv-loop μ-loop
-turned-requires c κs = search needs
-
-whole-requires : tie.Need-whole-requires Inv-loop μ-loop
-whole-requires c κs = search needs
-
 loop-holds : tie.Need-loop-holds Inv-loop μ-loop
 loop-holds c =
     let (same, comes) = c .whole .ensures in
@@ -40,9 +34,6 @@ sum-requires c κs =
     let at = t .before .before in
     let (hours, work, _) = at .before .before .before .pre in
     back-moderate hours work (at .loop .inv .2) (t .if1 .taken)
-
-greater-requires : tie.Need-greater-requires Inv-loop μ-loop
-greater-requires c κs = search needs
 
 -- the best sum of a round, as the machine reads it back from its bits
 top-is : (c : tie.After-greater Inv-loop μ-loop)
@@ -110,11 +101,11 @@ energy-bound-spec =
     (tie.spec
     Inv-loop
     μ-loop
-    turned-requires
-    whole-requires
+    (λ c κs. search needs)
+    (λ c κs. search needs)
     loop-holds
     sum-requires
-    greater-requires
+    (λ c κs. search needs)
     strike-requires
     loop-less
     loop-again

@@ -9,12 +9,6 @@ use borrow.Author.Needs.{needs}
 use Rattle.energy.proofs.single_bound.Statement.{statement}
 use Rattle.energy.proofs.single_bound.Tie as tie
 
-turned-requires : tie.Need-turned-requires
-turned-requires c κs = search needs
-
-end-requires : tie.Need-end-requires
-end-requires c κs = search needs
-
 -- the floor as a bound, as the machine reads it back from its bits
 low-is : (c : tie.After-turned) → toZ w32 (ofZ w32 (c .turned .result)) ≡ turned (sideOf (c .before .args .side)) (c .before .args .floor)
 low-is c = toZ-ofZ w32 _ (record { sfits = c .turned .ok }) ∙ simp (toZ-ofZ, c .before .fits .floor) at (c .turned .ensures)
@@ -32,4 +26,4 @@ returns c =
     c .above .ensures ∙ rw (end-is, low-is (c .before .before))
 
 pub single-bound-spec : {M : Type 1} → statement M
-single-bound-spec = tie.close (tie.spec turned-requires end-requires above-requires returns)
+single-bound-spec = tie.close (tie.spec (λ c κs. search needs) (λ c κs. search needs) above-requires returns)

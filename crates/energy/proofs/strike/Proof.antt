@@ -154,9 +154,6 @@ loop-again c =
     rw (s .without-next .ensures, c .before .before .without .ensures, toZ-ofZ w32 (c .gap .result) (record { sfits = c .gap .ok }), less)
     (strike (start .fits .set .fits) (at .loop .inv) (low .result) (next-width _ _ _ _ (low .ensures)) (next-member _ _ _ _ (low .ensures)) (rw (sum-is (t .before)) at (t .if1 .taken)))
 
-lesser-requires : tie.Need-lesser-requires Inv-loop μ-loop
-lesser-requires c κs = search needs
-
 loop-less-2 : tie.Need-loop-less-2 Inv-loop μ-loop
 loop-less-2 c =
     let s = c .before .before .before .before in
@@ -203,7 +200,7 @@ strike-spec =
     gap-requires
     loop-less
     loop-again
-    lesser-requires
+    (λ c κs. search needs)
     loop-less-2
     loop-again-2
     returns)

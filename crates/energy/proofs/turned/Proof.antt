@@ -9,12 +9,6 @@ use Rattle.minutes.specs.Time.{gap-fits}
 use Rattle.energy.proofs.turned.Statement.{statement}
 use Rattle.energy.proofs.turned.Tie as tie
 
-enum-told : tie.Need-enum-told
-enum-told c = search needs
-
-enum-told-2 : tie.Need-enum-told-2
-enum-told-2 c = search needs
-
 sub-result : tie.Need-sub-result
 sub-result c =
     let s = c .before .before in
@@ -31,4 +25,4 @@ returns-2 c =
     rw (c .enum-told2 .given .1) (simp (toZ-ofZ, s .fits .time) (flipped ∙ omega (whole, plus (pos 0) (negℤ t))))
 
 pub turned-spec : {M : Type 1} → statement M
-turned-spec = tie.close (tie.spec enum-told enum-told-2 sub-result returns returns-2)
+turned-spec = tie.close (tie.spec (λ c. search needs) (λ c. search needs) sub-result returns returns-2)

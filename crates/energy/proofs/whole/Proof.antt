@@ -75,9 +75,6 @@ without-lowest-requires c κs = c .lowest .ensures
 bound-requires : tie.Need-bound-requires Inv-loop μ-loop
 bound-requires c κs = (c .before .before .before .before .pre .0, c .before .lowest .ensures .width)
 
-lesser-requires : tie.Need-lesser-requires Inv-loop μ-loop
-lesser-requires c κs = search needs
-
 mul-sum : tie.Need-mul-sum Inv-loop μ-loop
 mul-sum c = omega (arith, c .before .before .before .lowest .ensures .width)
 
@@ -123,7 +120,7 @@ whole-spec =
     lowest-requires
     without-lowest-requires
     bound-requires
-    lesser-requires
+    (λ c κs. search needs)
     mul-sum
     element-copy-out-sum
     sum-requires

@@ -6,30 +6,6 @@ use Rattle.entries.specs.Lines.{no-line}
 use Rattle.entry_gate.proofs.addition_gate.Statement.{statement}
 use Rattle.entry_gate.proofs.addition_gate.Tie as tie
 
-cast-between : tie.Need-cast-between
-cast-between c = search needs
-
-cast-between-2 : tie.Need-cast-between-2
-cast-between-2 c = search needs
-
-between-requires : tie.Need-between-requires
-between-requires c κs = search needs
-
-is-length-requires : tie.Need-is-length-requires
-is-length-requires c κs = search needs
-
-line-requires : tie.Need-line-requires
-line-requires c κs = search needs
-
-window-lines-requires : tie.Need-window-lines-requires
-window-lines-requires c κs = search needs
-
-line-requires-2 : tie.Need-line-requires-2
-line-requires-2 c κs = search needs
-
-line-requires-3 : tie.Need-line-requires-3
-line-requires-3 c κs = search needs
-
 returns : tie.Need-returns
 returns c =
     let after-length = c .before .before .before .before in
@@ -45,12 +21,12 @@ pub addition-gate-spec : {M : Type 1} → statement M
 addition-gate-spec =
     tie.close
     (tie.spec
-    cast-between
-    cast-between-2
-    between-requires
-    is-length-requires
-    line-requires
-    window-lines-requires
-    line-requires-2
-    line-requires-3
+    (λ c. search needs)
+    (λ c. search needs)
+    (λ c κs. search needs)
+    (λ c κs. search needs)
+    (λ c κs. search needs)
+    (λ c κs. search needs)
+    (λ c κs. search needs)
+    (λ c κs. search needs)
     returns)

@@ -5,12 +5,6 @@ use mir.ValLaws.{toZ-ofZ}
 use Rattle.entry_gate.proofs.are_times.Statement.{statement}
 use Rattle.entry_gate.proofs.are_times.Tie as tie
 
-is-time-requires : tie.Need-is-time-requires
-is-time-requires c κs = search needs
-
-is-time-requires-2 : tie.Need-is-time-requires-2
-is-time-requires-2 c κs = search needs
-
 returns : tie.Need-returns
 returns c =
     let f = c .before .before .before .fits in
@@ -24,4 +18,4 @@ returns-2 c =
     rw (sym first ∙ c .if1 .left) (c .if1 .left)
 
 pub are-times-spec : {M : Type 1} → statement M
-are-times-spec = tie.close (tie.spec is-time-requires is-time-requires-2 returns returns-2)
+are-times-spec = tie.close (tie.spec (λ c κs. search needs) (λ c κs. search needs) returns returns-2)

@@ -6,15 +6,6 @@ use Rattle.entries.specs.Lines.{no-line}
 use Rattle.entry_gate.proofs.cut_gate.Statement.{statement}
 use Rattle.entry_gate.proofs.cut_gate.Tie as tie
 
-is-job-requires : tie.Need-is-job-requires
-is-job-requires c κs = search needs
-
-window-lines-requires : tie.Need-window-lines-requires
-window-lines-requires c κs = search needs
-
-line-requires : tie.Need-line-requires
-line-requires c κs = search needs
-
 returns : tie.Need-returns
 returns c =
     let f = c .before .before .before .fits in
@@ -23,4 +14,4 @@ returns c =
     rw (← job) (c .line .ensures _ window)
 
 pub cut-gate-spec : {M : Type 1} → statement M
-cut-gate-spec = tie.close (tie.spec is-job-requires window-lines-requires line-requires returns)
+cut-gate-spec = tie.close (tie.spec (λ c κs. search needs) (λ c κs. search needs) (λ c κs. search needs) returns)

@@ -4,15 +4,6 @@ use mir.ValLaws.{toZ-ofZ}
 use Rattle.entry_gate.proofs.window_lines.Statement.{statement}
 use Rattle.entry_gate.proofs.window_lines.Tie as tie
 
-are-times-requires : tie.Need-are-times-requires
-are-times-requires c κs = search needs
-
-line-requires : tie.Need-line-requires
-line-requires c κs = search needs
-
-line-requires-2 : tie.Need-line-requires-2
-line-requires-2 c κs = search needs
-
 returns : tie.Need-returns
 returns c cs h =
     let f = c .before .before .before .fits in
@@ -21,4 +12,4 @@ returns c cs h =
     rw (← times) (c .line2 .ensures _ window)
 
 pub window-lines-spec : {M : Type 1} → statement M
-window-lines-spec = tie.close (tie.spec are-times-requires line-requires line-requires-2 returns)
+window-lines-spec = tie.close (tie.spec (λ c κs. search needs) (λ c κs. search needs) (λ c κs. search needs) returns)

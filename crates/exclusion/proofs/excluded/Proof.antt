@@ -17,30 +17,6 @@ abbrev μ-loop : tie.MeasureT-loop
 loop-holds : tie.Need-loop-holds Inv-loop μ-loop
 loop-holds c = (to-come (c .fits .set .fits) (λ x e. e), crossed-none _ _ _)
 
-lowest-requires : tie.Need-lowest-requires Inv-loop μ-loop
-lowest-requires c κs = search needs
-
-without-lowest-requires : tie.Need-without-lowest-requires Inv-loop μ-loop
-without-lowest-requires c κs = search needs
-
-mul-intersection : tie.Need-mul-intersection Inv-loop μ-loop
-mul-intersection c = search needs
-
-element-copy-out-intersection : tie.Need-element-copy-out-intersection Inv-loop μ-loop
-element-copy-out-intersection c = search needs
-
-mul-intersection-2 : tie.Need-mul-intersection-2 Inv-loop μ-loop
-mul-intersection-2 c = search needs
-
-element-copy-out-intersection-2 : tie.Need-element-copy-out-intersection-2 Inv-loop μ-loop
-element-copy-out-intersection-2 c = search needs
-
-intersection-requires : tie.Need-intersection-requires Inv-loop μ-loop
-intersection-requires c κs = search needs
-
-union-requires : tie.Need-union-requires Inv-loop μ-loop
-union-requires c κs = search needs
-
 loop-less : tie.Need-loop-less Inv-loop μ-loop
 loop-less c =
     let walk = c .before .before .before .before in
@@ -65,14 +41,14 @@ excluded-spec =
     Inv-loop
     μ-loop
     loop-holds
-    lowest-requires
-    without-lowest-requires
-    mul-intersection
-    element-copy-out-intersection
-    mul-intersection-2
-    element-copy-out-intersection-2
-    intersection-requires
-    union-requires
+    (λ c κs. search needs)
+    (λ c κs. search needs)
+    (λ c. search needs)
+    (λ c. search needs)
+    (λ c. search needs)
+    (λ c. search needs)
+    (λ c κs. search needs)
+    (λ c κs. search needs)
     loop-less
     loop-again
     returns)

@@ -5,12 +5,6 @@ use mir.ValLaws.{toZ-ofZ}
 use Rattle.gate.proofs.are_jobs.Statement.{statement}
 use Rattle.gate.proofs.are_jobs.Tie as tie
 
-is-job-requires : tie.Need-is-job-requires
-is-job-requires c κs = search needs
-
-is-job-requires-2 : tie.Need-is-job-requires-2
-is-job-requires-2 c κs = search needs
-
 returns : tie.Need-returns
 returns c =
     let f = c .before .before .before .fits in
@@ -24,4 +18,4 @@ returns-2 c =
     rw (sym first ∙ c .if1 .left) (c .if1 .left)
 
 pub are-jobs-spec : {M : Type 1} → statement M
-are-jobs-spec = tie.close (tie.spec is-job-requires is-job-requires-2 returns returns-2)
+are-jobs-spec = tie.close (tie.spec (λ c κs. search needs) (λ c κs. search needs) returns returns-2)

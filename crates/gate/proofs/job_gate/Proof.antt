@@ -6,16 +6,10 @@ use Rattle.entries.specs.Lines.{no-line}
 use Rattle.gate.proofs.job_gate.Statement.{statement}
 use Rattle.gate.proofs.job_gate.Tie as tie
 
-is-job-requires : tie.Need-is-job-requires
-is-job-requires c κs = search needs
-
-line-requires : tie.Need-line-requires
-line-requires c κs = search needs
-
 returns : tie.Need-returns
 returns c =
     let f = c .before .before .fits in
     rw (← simp (toZ-ofZ, f .job) at (c .before .is-job .ensures)) (c .line .ensures [] no-line)
 
 pub job-gate-spec : {M : Type 1} → statement M
-job-gate-spec = tie.close (tie.spec is-job-requires line-requires returns)
+job-gate-spec = tie.close (tie.spec (λ c κs. search needs) (λ c κs. search needs) returns)

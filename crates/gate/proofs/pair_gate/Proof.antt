@@ -6,18 +6,6 @@ use Rattle.entries.specs.Lines.{no-line}
 use Rattle.gate.proofs.pair_gate.Statement.{statement}
 use Rattle.gate.proofs.pair_gate.Tie as tie
 
-are-jobs-requires : tie.Need-are-jobs-requires
-are-jobs-requires c κs = search needs
-
-is-same-requires : tie.Need-is-same-requires
-is-same-requires c κs = search needs
-
-line-requires : tie.Need-line-requires
-line-requires c κs = search needs
-
-line-requires-2 : tie.Need-line-requires-2
-line-requires-2 c κs = search needs
-
 returns : tie.Need-returns
 returns c =
     let f = c .before .before .before .before .fits in
@@ -27,4 +15,4 @@ returns c =
 
 pub pair-gate-spec : {M : Type 1} → statement M
 pair-gate-spec =
-    tie.close (tie.spec are-jobs-requires is-same-requires line-requires line-requires-2 returns)
+    tie.close (tie.spec (λ c κs. search needs) (λ c κs. search needs) (λ c κs. search needs) (λ c κs. search needs) returns)

@@ -38,24 +38,6 @@ raise-searched : (c : tie.After-at-side) (b : Board)
     → Searched (view b) (Settled (view b) early (a .i)) (inferredOf (c .at-side .result))
 raise-searched c b h = c .at-side .ensures b (read-early h)
 
-mul-t13 : tie.Need-mul-t13
-mul-t13 c = search needs
-
-element-copy-out-t16 : tie.Need-element-copy-out-t16
-element-copy-out-t16 c = search needs
-
-mul-holds : tie.Need-mul-holds
-mul-holds c = search needs
-
-element-copy-out-holds : tie.Need-element-copy-out-holds
-element-copy-out-holds c = search needs
-
-mul-holds-2 : tie.Need-mul-holds-2
-mul-holds-2 c = search needs
-
-element-copy-out-holds-2 : tie.Need-element-copy-out-holds-2
-element-copy-out-holds-2 c = search needs
-
 holds-requires : tie.Need-holds-requires
 holds-requires c κs =
     let start = c .before .before .before in
@@ -66,21 +48,9 @@ holds-requires c κs =
 returns : tie.Need-returns
 returns c b h live _ _ = says-room b _ live (sym (room-tested (c .before) b h) ∙ not-true _ (c .if1 .taken))
 
-at-side-requires : tie.Need-at-side-requires
-at-side-requires c κs = search needs
-
-enum-known-raised : tie.Need-enum-known-raised
-enum-known-raised c = search needs
-
 returns-2 : tie.Need-returns-2
 returns-2 c b h live early-known _ =
     rw (ap inferredOf (c .before .raised .given .1)) at (raise-searched (c .before .before .before) b h live early-known)
-
-enum-told : tie.Need-enum-told
-enum-told c = search needs
-
-at-side-requires-2 : tie.Need-at-side-requires-2
-at-side-requires-2 c κs = search needs
 
 returns-3 : tie.Need-returns-3
 returns-3 c b h live early-known late-known =
@@ -94,17 +64,17 @@ pub at-job-spec : {M : Type 1} → statement M
 at-job-spec =
     tie.close
     (tie.spec
-    mul-t13
-    element-copy-out-t16
-    mul-holds
-    element-copy-out-holds
-    mul-holds-2
-    element-copy-out-holds-2
+    (λ c. search needs)
+    (λ c. search needs)
+    (λ c. search needs)
+    (λ c. search needs)
+    (λ c. search needs)
+    (λ c. search needs)
     holds-requires
     returns
-    at-side-requires
-    enum-known-raised
+    (λ c κs. search needs)
+    (λ c. search needs)
     returns-2
-    enum-told
-    at-side-requires-2
+    (λ c. search needs)
+    (λ c κs. search needs)
     returns-3)

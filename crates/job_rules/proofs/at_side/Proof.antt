@@ -12,9 +12,6 @@ use Rattle.job_rules.proofs.at_side.Tie as tie
 returns : tie.Need-returns
 returns c b h live settled = settled (c .if1 .taken)
 
-bound-beyond-requires : tie.Need-bound-beyond-requires
-bound-beyond-requires c κs = search needs
-
 -- what the bound that is asked for says
 searched : (c : tie.After-bound-beyond)
     → let a = c .before .before .args in
@@ -22,12 +19,6 @@ searched : (c : tie.After-bound-beyond)
     SideSearched side (a .job) (a .representative) (a .times .now) (a .lengths .now) (a .beyond .now) (a .valid)
     (told side (a .job) (boundOf side (c .bound-beyond .result)))
 searched c = side-searched (boundOf (sideOf (c .before .before .args .side)) (c .bound-beyond .result)) (c .bound-beyond .ensures)
-
-enum-known-bound : tie.Need-enum-known-bound
-enum-known-bound c = search needs
-
-enum-told : tie.Need-enum-told
-enum-told c = search needs
 
 returns-2 : tie.Need-returns-2
 returns-2 c = rw (c .enum-told .given .1) at (searched (c .before .before))
@@ -41,4 +32,4 @@ returns-3 c =
 pub at-side-spec : {M : Type 1} → statement M
 at-side-spec =
     tie.close
-    (tie.spec returns bound-beyond-requires enum-known-bound enum-told returns-2 returns-3)
+    (tie.spec returns (λ c κs. search needs) (λ c. search needs) (λ c. search needs) returns-2 returns-3)

@@ -6,20 +6,8 @@ use Rattle.job_rules.specs.BoundBeyond.{said, none-beyond}
 use Rattle.job_rules.proofs.bound_beyond.Statement.{statement}
 use Rattle.job_rules.proofs.bound_beyond.Tie as tie
 
-mul-intersection : tie.Need-mul-intersection
-mul-intersection c = search needs
-
-element-copy-out-intersection : tie.Need-element-copy-out-intersection
-element-copy-out-intersection c = search needs
-
-intersection-requires : tie.Need-intersection-requires
-intersection-requires c κs = search needs
-
 returns : tie.Need-returns
 returns c = none-beyond _ _ _ _ _ _ _ (c .before .intersection .ensures) (c .if1 .taken)
-
-bound-of-requires : tie.Need-bound-of-requires
-bound-of-requires c κs = search needs
 
 returns-2 : tie.Need-returns-2
 returns-2 c =
@@ -31,9 +19,9 @@ pub bound-beyond-spec : {M : Type 1} → statement M
 bound-beyond-spec =
     tie.close
     (tie.spec
-    mul-intersection
-    element-copy-out-intersection
-    intersection-requires
+    (λ c. search needs)
+    (λ c. search needs)
+    (λ c κs. search needs)
     returns
-    bound-of-requires
+    (λ c κs. search needs)
     returns-2)

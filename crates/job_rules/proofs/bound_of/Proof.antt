@@ -24,24 +24,6 @@ floor-moderate start =
     let t = start .pre .2 .time (start .args .job) in
     simp (toZ-ofZ, time-fits t) (time-moderate t)
 
-last-requires : tie.Need-last-requires
-last-requires c κs = search needs
-
-mul-standing-apart : tie.Need-mul-standing-apart
-mul-standing-apart c = search needs
-
-element-copy-out-standing-apart : tie.Need-element-copy-out-standing-apart
-element-copy-out-standing-apart c = search needs
-
-standing-apart-requires : tie.Need-standing-apart-requires
-standing-apart-requires c κs = search needs
-
-mul-single-bound : tie.Need-mul-single-bound
-mul-single-bound c = search needs
-
-element-copy-out-single-bound : tie.Need-element-copy-out-single-bound
-element-copy-out-single-bound c = search needs
-
 single-bound-requires : tie.Need-single-bound-requires
 single-bound-requires c κs =
     let apart = c .before .before in
@@ -60,15 +42,6 @@ returns c =
     rw told
     (last-alone side (a .times .now) (a .lengths .now) (a .beyond .now) (a .job) (a .set) (found .result) _ (found .ensures .0) (found .ensures .1) (apart .standing-apart .ensures) (c .before .before .if1 .taken))
 
-without-requires : tie.Need-without-requires
-without-requires c κs = search needs
-
-mul-ends-by : tie.Need-mul-ends-by
-mul-ends-by c = search needs
-
-element-copy-out-ends-by : tie.Need-element-copy-out-ends-by
-element-copy-out-ends-by c = search needs
-
 ends-by-requires : tie.Need-ends-by-requires
 ends-by-requires c κs =
     let apart = c .before .before .before .before .before in
@@ -85,12 +58,6 @@ returns-2 c =
     let ends = simp (toZ-ofZ, time-fits (start .pre .2 .time (a .job))) at (c .before .ends-by .ensures (c .if4 .taken)) in
     let side = sideOf (a .side) in
     last-ends-by side (a .times .now) (a .lengths .now) (a .beyond .now) (a .job) (a .set) (found .result) _ (found .ensures .0) (found .ensures .1) (apart .standing-apart .ensures) ends
-
-mul-energy-bound : tie.Need-mul-energy-bound
-mul-energy-bound c = search needs
-
-element-copy-out-energy-bound : tie.Need-element-copy-out-energy-bound
-element-copy-out-energy-bound c = search needs
 
 energy-bound-requires : tie.Need-energy-bound-requires
 energy-bound-requires c κs =
@@ -110,20 +77,20 @@ pub bound-of-spec : {M : Type 1} → statement M
 bound-of-spec =
     tie.close
     (tie.spec
-    last-requires
-    mul-standing-apart
-    element-copy-out-standing-apart
-    standing-apart-requires
-    mul-single-bound
-    element-copy-out-single-bound
+    (λ c κs. search needs)
+    (λ c. search needs)
+    (λ c. search needs)
+    (λ c κs. search needs)
+    (λ c. search needs)
+    (λ c. search needs)
     single-bound-requires
     returns
-    without-requires
-    mul-ends-by
-    element-copy-out-ends-by
+    (λ c κs. search needs)
+    (λ c. search needs)
+    (λ c. search needs)
     ends-by-requires
     returns-2
-    mul-energy-bound
-    element-copy-out-energy-bound
+    (λ c. search needs)
+    (λ c. search needs)
     energy-bound-requires
     returns-3)

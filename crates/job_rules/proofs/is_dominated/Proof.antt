@@ -9,14 +9,8 @@ use Rattle.job_rules.specs.Dominance.{tested}
 use Rattle.job_rules.proofs.is_dominated.Statement.{statement}
 use Rattle.job_rules.proofs.is_dominated.Tie as tie
 
-difference-requires : tie.Need-difference-requires
-difference-requires c κs = search needs
-
 returns : tie.Need-returns
 returns c e = absurd (refuted refl e)
-
-is-lower-requires : tie.Need-is-lower-requires
-is-lower-requires c κs = search needs
 
 returns-2 : tie.Need-returns-2
 returns-2 c e =
@@ -28,4 +22,4 @@ returns-2 c e =
     (sym lower ∙ not-true (c .is-lower .result) e)
 
 pub is-dominated-spec : {M : Type 1} → statement M
-is-dominated-spec = tie.close (tie.spec difference-requires returns is-lower-requires returns-2)
+is-dominated-spec = tie.close (tie.spec (λ c κs. search needs) returns (λ c κs. search needs) returns-2)

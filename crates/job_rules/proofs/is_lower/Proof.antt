@@ -4,12 +4,6 @@ use Rattle.windows.specs.WindowLaws.{turned-test}
 use Rattle.job_rules.proofs.is_lower.Statement.{statement}
 use Rattle.job_rules.proofs.is_lower.Tie as tie
 
-enum-told : tie.Need-enum-told
-enum-told c = search needs
-
-enum-told-2 : tie.Need-enum-told-2
-enum-told-2 c = search needs
-
 returns : tie.Need-returns
 returns c = rw (c .enum-told .given .1) (search needs)
 
@@ -17,4 +11,4 @@ returns-2 : tie.Need-returns-2
 returns-2 c = rw (c .enum-told2 .given .1) (search (needs, turned-test))
 
 pub is-lower-spec : {M : Type 1} → statement M
-is-lower-spec = tie.close (tie.spec enum-told enum-told-2 returns returns-2)
+is-lower-spec = tie.close (tie.spec (λ c. search needs) (λ c. search needs) returns returns-2)

@@ -18,32 +18,8 @@ Inv-loop set opposite k₀ counter₀ k counter = (counter ≤ jobLimit) × (k <
 abbrev μ-loop : tie.MeasureT-loop
 μ-loop set opposite k₀ counter₀ k counter = jobLimit - counter
 
-lowest-requires : tie.Need-lowest-requires Inv-loop μ-loop
-lowest-requires c κs = search needs
-
-loop-holds : tie.Need-loop-holds Inv-loop μ-loop
-loop-holds c = search needs
-
-mul-intersection : tie.Need-mul-intersection Inv-loop μ-loop
-mul-intersection c = search needs
-
-element-copy-out-intersection : tie.Need-element-copy-out-intersection Inv-loop μ-loop
-element-copy-out-intersection c = search needs
-
-intersection-requires : tie.Need-intersection-requires Inv-loop μ-loop
-intersection-requires c κs = search needs
-
 returns : tie.Need-returns Inv-loop μ-loop
 returns c = let (_, place, member) = c .before .before .before .before .loop .inv in (place, member)
-
-lowest-requires-2 : tie.Need-lowest-requires-2 Inv-loop μ-loop
-lowest-requires-2 c κs = search needs
-
-add-counter : tie.Need-add-counter Inv-loop μ-loop
-add-counter c = search needs
-
-loop-less : tie.Need-loop-less Inv-loop μ-loop
-loop-less c = search needs
 
 loop-again : tie.Need-loop-again Inv-loop μ-loop
 loop-again c =
@@ -63,14 +39,14 @@ last-spec =
     (tie.spec
     Inv-loop
     μ-loop
-    lowest-requires
-    loop-holds
-    mul-intersection
-    element-copy-out-intersection
-    intersection-requires
+    (λ c κs. search needs)
+    (λ c. search needs)
+    (λ c. search needs)
+    (λ c. search needs)
+    (λ c κs. search needs)
     returns
-    lowest-requires-2
-    add-counter
-    loop-less
+    (λ c κs. search needs)
+    (λ c. search needs)
+    (λ c. search needs)
     loop-again
     returns-2)

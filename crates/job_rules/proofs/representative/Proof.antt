@@ -8,46 +8,13 @@ use Rattle.energy.specs.Laws.{time-fits}
 use Rattle.job_rules.proofs.representative.Statement.{statement}
 use Rattle.job_rules.proofs.representative.Tie as tie
 
-mul-intersection : tie.Need-mul-intersection
-mul-intersection c = search needs
-
-element-copy-out-intersection : tie.Need-element-copy-out-intersection
-element-copy-out-intersection c = search needs
-
-intersection-requires : tie.Need-intersection-requires
-intersection-requires c κs = search needs
-
 returns : tie.Need-returns
 returns c =
     let set = c .before in
     (set .before .before .pre .1, λ _. inl (sym (set .intersection .ensures) ∙ c .if1 .taken))
 
-has-requires : tie.Need-has-requires
-has-requires c κs = search needs
-
 returns-2 : tie.Need-returns-2
 returns-2 c = (c .before .before .before .before .before .pre .0, λ other. absurd (other refl))
-
-mul-is-dominated : tie.Need-mul-is-dominated
-mul-is-dominated c = search needs
-
-element-copy-out-is-dominated : tie.Need-element-copy-out-is-dominated
-element-copy-out-is-dominated c = search needs
-
-mul-is-dominated-2 : tie.Need-mul-is-dominated-2
-mul-is-dominated-2 c = search needs
-
-element-copy-out-is-dominated-2 : tie.Need-element-copy-out-is-dominated-2
-element-copy-out-is-dominated-2 c = search needs
-
-mul-is-dominated-3 : tie.Need-mul-is-dominated-3
-mul-is-dominated-3 c = search needs
-
-element-copy-out-is-dominated-3 : tie.Need-element-copy-out-is-dominated-3
-element-copy-out-is-dominated-3 c = search needs
-
-is-dominated-requires : tie.Need-is-dominated-requires
-is-dominated-requires c κs = search needs
 
 returns-3 : tie.Need-returns-3
 returns-3 c =
@@ -69,18 +36,18 @@ pub representative-spec : {M : Type 1} → statement M
 representative-spec =
     tie.close
     (tie.spec
-    mul-intersection
-    element-copy-out-intersection
-    intersection-requires
+    (λ c. search needs)
+    (λ c. search needs)
+    (λ c κs. search needs)
     returns
-    has-requires
+    (λ c κs. search needs)
     returns-2
-    mul-is-dominated
-    element-copy-out-is-dominated
-    mul-is-dominated-2
-    element-copy-out-is-dominated-2
-    mul-is-dominated-3
-    element-copy-out-is-dominated-3
-    is-dominated-requires
+    (λ c. search needs)
+    (λ c. search needs)
+    (λ c. search needs)
+    (λ c. search needs)
+    (λ c. search needs)
+    (λ c. search needs)
+    (λ c κs. search needs)
     returns-3
     returns-4)

@@ -4,12 +4,6 @@ use Rattle.job_rules.specs.BoundBeyond.{apart-is}
 use Rattle.job_rules.proofs.standing_apart.Statement.{statement}
 use Rattle.job_rules.proofs.standing_apart.Tie as tie
 
-without-requires : tie.Need-without-requires
-without-requires c κs = search needs
-
-difference-requires : tie.Need-difference-requires
-difference-requires c κs = search needs
-
 returns : tie.Need-returns
 returns c =
     let start = c .before .before in
@@ -18,4 +12,4 @@ returns c =
     (apart-is 64 (a .set) (a .k) (a .word) (start .fits .set .fits) (start .fits .word .fits) (start .pre))
 
 pub standing-apart-spec : {M : Type 1} → statement M
-standing-apart-spec = tie.close (tie.spec without-requires difference-requires returns)
+standing-apart-spec = tie.close (tie.spec (λ c κs. search needs) (λ c κs. search needs) returns)

@@ -8,15 +8,6 @@ use Rattle.board.specs.Paper.Tests.{isLength, isTime}
 use Rattle.limits.proofs.fits.Statement.{statement}
 use Rattle.limits.proofs.fits.Tie as tie
 
-is-length-requires : tie.Need-is-length-requires
-is-length-requires c κs = search needs
-
-is-time-requires : tie.Need-is-time-requires
-is-time-requires c κs = search needs
-
-is-time-requires-2 : tie.Need-is-time-requires-2
-is-time-requires-2 c κs = search needs
-
 -- the first two tests
 joined : (c : tie.Joined1)
     → c .if1 .if2 ≡ (isLength (c .before .before .args .length) && isTime (c .before .before .args .earliest))
@@ -38,4 +29,4 @@ returns-2 c = c .if2 .left ∙ rw (sym (joined (c .before)) ∙ c .if2 .left)
 
 pub fits-spec : {M : Type 1} → statement M
 fits-spec =
-    tie.close (tie.spec is-length-requires is-time-requires is-time-requires-2 returns returns-2)
+    tie.close (tie.spec (λ c κs. search needs) (λ c κs. search needs) (λ c κs. search needs) returns returns-2)

@@ -7,12 +7,6 @@ use Rattle.board.specs.Paper.Tests.{isLength, isTime}
 use Rattle.limits.proofs.is_live_place.Statement.{statement}
 use Rattle.limits.proofs.is_live_place.Tie as tie
 
-fits-requires : tie.Need-fits-requires
-fits-requires c κs = search needs
-
-has-requires : tie.Need-has-requires
-has-requires c κs = search needs
-
 -- what the test of the row says
 row-tested : (c : tie.After-fits2)
     → let a = c .before .args in
@@ -26,4 +20,4 @@ returns-2 : tie.Need-returns-2
 returns-2 c = c .if1 .left ∙ rw (sym (row-tested (c .before)) ∙ c .if1 .left)
 
 pub is-live-place-spec : {M : Type 1} → statement M
-is-live-place-spec = tie.close (tie.spec fits-requires has-requires returns returns-2)
+is-live-place-spec = tie.close (tie.spec (λ c κs. search needs) (λ c κs. search needs) returns returns-2)

@@ -6,11 +6,8 @@ use Rattle.limits.specs.Limits.{zero-between}
 use Rattle.limits.proofs.is_zero.Statement.{statement}
 use Rattle.limits.proofs.is_zero.Tie as tie
 
-between-requires : tie.Need-between-requires
-between-requires c κs = search needs
-
 returns : tie.Need-returns
 returns c = simp (toZ-ofZ, c .before .fits .z) at (c .between .ensures ∙ zero-between _)
 
 pub is-zero-spec : {M : Type 1} → statement M
-is-zero-spec = tie.close (tie.spec between-requires returns)
+is-zero-spec = tie.close (tie.spec (λ c κs. search needs) returns)

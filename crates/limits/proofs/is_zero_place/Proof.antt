@@ -7,12 +7,6 @@ use Rattle.board.specs.Tests.Limits.{isZero}
 use Rattle.limits.proofs.is_zero_place.Statement.{statement}
 use Rattle.limits.proofs.is_zero_place.Tie as tie
 
-is-zero-row-requires : tie.Need-is-zero-row-requires
-is-zero-row-requires c κs = search needs
-
-union-requires : tie.Need-union-requires
-union-requires c κs = search needs
-
 -- what the test of the row says
 row-tested : (c : tie.After-is-zero-row)
     → let a = c .before .args in
@@ -26,4 +20,4 @@ returns-2 : tie.Need-returns-2
 returns-2 c = c .if1 .left ∙ rw (sym (row-tested (c .before)) ∙ c .if1 .left)
 
 pub is-zero-place-spec : {M : Type 1} → statement M
-is-zero-place-spec = tie.close (tie.spec is-zero-row-requires union-requires returns returns-2)
+is-zero-place-spec = tie.close (tie.spec (λ c κs. search needs) (λ c κs. search needs) returns returns-2)

@@ -8,15 +8,6 @@ use Rattle.board.specs.Tests.Limits.{isZero}
 use Rattle.limits.proofs.is_zero_row.Statement.{statement}
 use Rattle.limits.proofs.is_zero_row.Tie as tie
 
-is-zero-requires : tie.Need-is-zero-requires
-is-zero-requires c κs = search needs
-
-is-zero-requires-2 : tie.Need-is-zero-requires-2
-is-zero-requires-2 c κs = search needs
-
-is-zero-requires-3 : tie.Need-is-zero-requires-3
-is-zero-requires-3 c κs = search needs
-
 -- the first two tests
 joined : (c : tie.Joined1)
     → c .if1 .if2 ≡ (isZero (c .before .before .args .length) && isZero (c .before .before .args .earliest))
@@ -38,4 +29,4 @@ returns-2 c = c .if2 .left ∙ rw (sym (joined (c .before)) ∙ c .if2 .left)
 
 pub is-zero-row-spec : {M : Type 1} → statement M
 is-zero-row-spec =
-    tie.close (tie.spec is-zero-requires is-zero-requires-2 is-zero-requires-3 returns returns-2)
+    tie.close (tie.spec (λ c κs. search needs) (λ c κs. search needs) (λ c κs. search needs) returns returns-2)

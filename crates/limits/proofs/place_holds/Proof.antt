@@ -10,9 +10,6 @@ use Rattle.limits.specs.Limits.{place-blank, place-invalid, place-live}
 use Rattle.limits.proofs.place_holds.Statement.{statement}
 use Rattle.limits.proofs.place_holds.Tie as tie
 
-is-zero-place-requires : tie.Need-is-zero-place-requires
-is-zero-place-requires c κs = search needs
-
 returns : tie.Need-returns
 returns c =
     let s = c .before .before .before in
@@ -25,17 +22,11 @@ returns-2 c =
     (λ e. absurd (c .if2 .left e))
     (λ h. ap (λ (r : Row). r .mark) (h .0 .blank (c .before .if1 .taken)))
 
-is-zero-place-requires-2 : tie.Need-is-zero-place-requires-2
-is-zero-place-requires-2 c κs = search needs
-
 returns-3 : tie.Need-returns-3
 returns-3 c =
     let s = c .before .before .before in
     rw (simp (toZ-ofZ, s .fits .length, s .fits .earliest, s .fits .latest) at (c .is-zero-place2 .ensures))
     (place-invalid _ _ _ _ _ _ _ _ (c .before .before .if1 .left) (c .before .if3 .taken))
-
-is-live-place-requires : tie.Need-is-live-place-requires
-is-live-place-requires c κs = search needs
 
 returns-4 : tie.Need-returns-4
 returns-4 c =
@@ -53,11 +44,11 @@ pub place-holds-spec : {M : Type 1} → statement M
 place-holds-spec =
     tie.close
     (tie.spec
-    is-zero-place-requires
+    (λ c κs. search needs)
     returns
     returns-2
-    is-zero-place-requires-2
+    (λ c κs. search needs)
     returns-3
-    is-live-place-requires
+    (λ c κs. search needs)
     returns-4
     returns-5)

@@ -27,42 +27,6 @@ abbrev μ-loop : tie.MeasureT-loop
 loop-holds : tie.Need-loop-holds Inv-loop μ-loop
 loop-holds c = (search needs, λ j l. absurd (omega arith))
 
-element-copy-out-place-holds : tie.Need-element-copy-out-place-holds Inv-loop μ-loop
-element-copy-out-place-holds c = search needs
-
-mul-place-holds : tie.Need-mul-place-holds Inv-loop μ-loop
-mul-place-holds c = search needs
-
-element-copy-out-place-holds-2 : tie.Need-element-copy-out-place-holds-2 Inv-loop μ-loop
-element-copy-out-place-holds-2 c = search needs
-
-mul-place-holds-2 : tie.Need-mul-place-holds-2 Inv-loop μ-loop
-mul-place-holds-2 c = search needs
-
-element-copy-out-place-holds-3 : tie.Need-element-copy-out-place-holds-3 Inv-loop μ-loop
-element-copy-out-place-holds-3 c = search needs
-
-mul-place-holds-3 : tie.Need-mul-place-holds-3 Inv-loop μ-loop
-mul-place-holds-3 c = search needs
-
-element-copy-out-place-holds-4 : tie.Need-element-copy-out-place-holds-4 Inv-loop μ-loop
-element-copy-out-place-holds-4 c = search needs
-
-mul-place-holds-4 : tie.Need-mul-place-holds-4 Inv-loop μ-loop
-mul-place-holds-4 c = search needs
-
-element-copy-out-place-holds-5 : tie.Need-element-copy-out-place-holds-5 Inv-loop μ-loop
-element-copy-out-place-holds-5 c = search needs
-
-mul-place-holds-5 : tie.Need-mul-place-holds-5 Inv-loop μ-loop
-mul-place-holds-5 c = search needs
-
-element-copy-out-place-holds-6 : tie.Need-element-copy-out-place-holds-6 Inv-loop μ-loop
-element-copy-out-place-holds-6 c = search needs
-
-place-holds-requires : tie.Need-place-holds-requires Inv-loop μ-loop
-place-holds-requires c κs = search needs
-
 -- what the test of place k decides
 tested : (c : tie.After-place-holds Inv-loop μ-loop)
     → let a = c .before .before .before .before .before .before .before .before .before .args in
@@ -82,12 +46,6 @@ returns c =
     let below = c .before .before .before .before .before .before .before .before .loop-test .taken in
     failed λ h. refuted (not-true _ (c .if1 .taken)) (tested (c .before) .show (h _ below))
 
-add-k : tie.Need-add-k Inv-loop μ-loop
-add-k c = search needs
-
-loop-less : tie.Need-loop-less Inv-loop μ-loop
-loop-less c = search needs
-
 loop-again : tie.Need-loop-again Inv-loop μ-loop
 loop-again c =
     let l = c .before .before .before .before .before .before .before .before .before .loop in
@@ -103,20 +61,20 @@ places-hold-spec =
     Inv-loop
     μ-loop
     loop-holds
-    element-copy-out-place-holds
-    mul-place-holds
-    element-copy-out-place-holds-2
-    mul-place-holds-2
-    element-copy-out-place-holds-3
-    mul-place-holds-3
-    element-copy-out-place-holds-4
-    mul-place-holds-4
-    element-copy-out-place-holds-5
-    mul-place-holds-5
-    element-copy-out-place-holds-6
-    place-holds-requires
+    (λ c. search needs)
+    (λ c. search needs)
+    (λ c. search needs)
+    (λ c. search needs)
+    (λ c. search needs)
+    (λ c. search needs)
+    (λ c. search needs)
+    (λ c. search needs)
+    (λ c. search needs)
+    (λ c. search needs)
+    (λ c. search needs)
+    (λ c κs. search needs)
     returns
-    add-k
-    loop-less
+    (λ c. search needs)
+    (λ c. search needs)
     loop-again
     returns-2)

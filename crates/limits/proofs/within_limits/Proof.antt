@@ -19,12 +19,6 @@ returns c =
     (failed λ w. omega (arith, w .limits .jobs))
     (decides-limits _)
 
-places-hold-requires : tie.Need-places-hold-requires
-places-hold-requires c κs = search needs
-
-agree-requires : tie.Need-agree-requires
-agree-requires c κs = search needs
-
 -- where the numbers of the board are in range, the places and the agreement are left to test
 tested : (c : tie.After-b) {t : Bool}
     → let b = c .before .before .args .t1 in
@@ -56,4 +50,4 @@ returns-3 c =
 
 pub within-limits-spec : {M : Type 1} → statement M
 within-limits-spec =
-    tie.close (tie.spec returns places-hold-requires agree-requires returns-2 returns-3)
+    tie.close (tie.spec returns (λ c κs. search needs) (λ c κs. search needs) returns-2 returns-3)

@@ -5,24 +5,15 @@ use borrow.Author.Needs.{needs}
 use Rattle.pair_rules.proofs.applies.Statement.{statement}
 use Rattle.pair_rules.proofs.applies.Tie as tie
 
-excludes-requires : tie.Need-excludes-requires
-excludes-requires c κs = search needs
-
 returns : tie.Need-returns
 returns c =
     let a = c .before .before .args in
     tested-exclude (a .i) (a .k) (a .valid) (a .after) (a .before) (a .onward) (a .late) (sym (c .before .excludes .ensures) ∙ c .if1 .taken)
 
-orders-requires : tie.Need-orders-requires
-orders-requires c κs = search needs
-
 returns-2 : tie.Need-returns-2
 returns-2 c =
     let a = c .before .before .before .before .args in
     tested-order (a .i) (a .k) (a .valid) (a .after) (a .before) (a .onward) (a .late) (sym (c .before .orders .ensures) ∙ c .if2 .taken)
-
-unjoined-requires : tie.Need-unjoined-requires
-unjoined-requires c κs = search needs
 
 returns-3 : tie.Need-returns-3
 returns-3 c =
@@ -35,4 +26,4 @@ returns-3 c =
 pub applies-spec : {M : Type 1} → statement M
 applies-spec =
     tie.close
-    (tie.spec excludes-requires returns orders-requires returns-2 unjoined-requires returns-3)
+    (tie.spec (λ c κs. search needs) returns (λ c κs. search needs) returns-2 (λ c κs. search needs) returns-3)

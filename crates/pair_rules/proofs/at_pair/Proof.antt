@@ -5,27 +5,15 @@ use borrow.Author.Needs.{needs}
 use Rattle.pair_rules.proofs.at_pair.Statement.{statement}
 use Rattle.pair_rules.proofs.at_pair.Tie as tie
 
-excludes-requires : tie.Need-excludes-requires
-excludes-requires c κs = search needs
-
 returns : tie.Need-returns
 returns c =
     let a = c .before .before .args in
     says-exclude (a .i) (a .k) (a .valid) (a .after) (a .before) (a .onward) (a .late) (sym (c .before .excludes .ensures) ∙ c .if1 .taken)
 
-orders-requires : tie.Need-orders-requires
-orders-requires c κs = search needs
-
 returns-2 : tie.Need-returns-2
 returns-2 c =
     let a = c .before .before .before .before .args in
     says-order (a .i) (a .k) (a .valid) (a .after) (a .before) (a .onward) (a .late) (sym (c .before .orders .ensures) ∙ c .if2 .taken)
-
-unjoined-requires : tie.Need-unjoined-requires
-unjoined-requires c κs = search needs
-
-lowest-requires : tie.Need-lowest-requires
-lowest-requires c κs = search needs
 
 returns-3 : tie.Need-returns-3
 returns-3 c =
@@ -47,11 +35,11 @@ pub at-pair-spec : {M : Type 1} → statement M
 at-pair-spec =
     tie.close
     (tie.spec
-    excludes-requires
+    (λ c κs. search needs)
     returns
-    orders-requires
+    (λ c κs. search needs)
     returns-2
-    unjoined-requires
-    lowest-requires
+    (λ c κs. search needs)
+    (λ c κs. search needs)
     returns-3
     returns-4)

@@ -6,15 +6,6 @@ use borrow.Author.Needs.{needs}
 use Rattle.pair_rules.proofs.excludes.Statement.{statement}
 use Rattle.pair_rules.proofs.excludes.Tie as tie
 
-intersection-requires : tie.Need-intersection-requires
-intersection-requires c κs = search needs
-
-has-requires : tie.Need-has-requires
-has-requires c κs = search needs
-
-has-requires-2 : tie.Need-has-requires-2
-has-requires-2 c κs = search needs
-
 returns : tie.Need-returns
 returns c =
     let a = c .before .before .before .before .args in
@@ -29,4 +20,4 @@ returns-2 c =
 
 pub excludes-spec : {M : Type 1} → statement M
 excludes-spec =
-    tie.close (tie.spec intersection-requires has-requires has-requires-2 returns returns-2)
+    tie.close (tie.spec (λ c κs. search needs) (λ c κs. search needs) (λ c κs. search needs) returns returns-2)

@@ -5,9 +5,6 @@ use borrow.Author.Needs.{needs}
 use Rattle.pair_rules.proofs.is_late.Statement.{statement}
 use Rattle.pair_rules.proofs.is_late.Tie as tie
 
-sum-requires : tie.Need-sum-requires
-sum-requires c κs = search needs
-
 returns : tie.Need-returns
 returns c =
     let start = c .before in
@@ -16,4 +13,4 @@ returns c =
     rw sum (simp (toZ-ofZ, start .fits .latest, sum-fits (start .args .end) (start .args .length) end length))
 
 pub is-late-spec : {M : Type 1} → statement M
-is-late-spec = tie.close (tie.spec sum-requires returns)
+is-late-spec = tie.close (tie.spec (λ c κs. search needs) returns)

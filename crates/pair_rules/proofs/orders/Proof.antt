@@ -5,9 +5,6 @@ use borrow.Author.Needs.{needs}
 use Rattle.pair_rules.proofs.orders.Statement.{statement}
 use Rattle.pair_rules.proofs.orders.Tie as tie
 
-has-requires : tie.Need-has-requires
-has-requires c κs = search needs
-
 returns : tie.Need-returns
 returns c = rw (c .before .if1 .taken) (ap not (c .has .ensures))
 
@@ -15,4 +12,4 @@ returns-2 : tie.Need-returns-2
 returns-2 c = rw (c .if1 .left)
 
 pub orders-spec : {M : Type 1} → statement M
-orders-spec = tie.close (tie.spec has-requires returns returns-2)
+orders-spec = tie.close (tie.spec (λ c κs. search needs) returns returns-2)

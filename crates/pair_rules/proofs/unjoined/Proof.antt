@@ -7,18 +7,6 @@ use borrow.Author.Needs.{needs}
 use Rattle.pair_rules.proofs.unjoined.Statement.{statement}
 use Rattle.pair_rules.proofs.unjoined.Tie as tie
 
-intersection-requires : tie.Need-intersection-requires
-intersection-requires c κs = search needs
-
-has-requires : tie.Need-has-requires
-has-requires c κs = search needs
-
-without-requires : tie.Need-without-requires
-without-requires c κs = search needs
-
-difference-requires : tie.Need-difference-requires
-difference-requires c κs = search needs
-
 returns : tie.Need-returns
 returns c =
     let start = c .before .before .before .before .before in
@@ -46,9 +34,9 @@ pub unjoined-spec : {M : Type 1} → statement M
 unjoined-spec =
     tie.close
     (tie.spec
-    intersection-requires
-    has-requires
-    without-requires
-    difference-requires
+    (λ c κs. search needs)
+    (λ c κs. search needs)
+    (λ c κs. search needs)
+    (λ c κs. search needs)
     returns
     returns-2)

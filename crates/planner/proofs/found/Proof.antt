@@ -3,11 +3,8 @@ use borrow.Author.Needs.{needs}
 use Rattle.planner.proofs.found.Statement.{statement}
 use Rattle.planner.proofs.found.Tie as tie
 
-starts-requires : tie.Need-starts-requires
-starts-requires c κs = search needs
-
 returns : tie.Need-returns
 returns c = rw (c .starts .ensures)
 
 pub found-spec : {M : Type 1} → statement M
-found-spec = tie.close (tie.spec starts-requires returns)
+found-spec = tie.close (tie.spec (λ c κs. search needs) returns)

@@ -5,9 +5,6 @@ use mir.ValLaws.{toZ-ofZ}
 use Rattle.planner.proofs.places.Statement.{statement}
 use Rattle.planner.proofs.places.Tie as tie
 
-intersection-requires : tie.Need-intersection-requires
-intersection-requires c κs = search needs
-
 returns : tie.Need-returns
 returns c =
     let start = c .before .before in
@@ -18,4 +15,4 @@ returns-2 : tie.Need-returns-2
 returns-2 c = rw (← c .before .intersection .ensures, ne-eqb _ 0 (c .if1 .left))
 
 pub places-spec : {M : Type 1} → statement M
-places-spec = tie.close (tie.spec intersection-requires returns returns-2)
+places-spec = tie.close (tie.spec (λ c κs. search needs) returns returns-2)

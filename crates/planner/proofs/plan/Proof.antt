@@ -20,18 +20,6 @@ said c = simp (toZ-ofZ, c .before .fits .budget) at (c .budget-gate .ensures)
 let-pass : (c : tie.After-enum-told) → none ≡ gate (budgetCheck (c .before .before .before .args .budget) ∷ [])
 let-pass c = rw (c .enum-told .given .1) at (said (c .before .before))
 
-budget-gate-requires : tie.Need-budget-gate-requires
-budget-gate-requires c κs = search needs
-
-enum-known-refusal : tie.Need-enum-known-refusal
-enum-known-refusal c = search needs
-
-unplanned-requires : tie.Need-unplanned-requires
-unplanned-requires c κs = search needs
-
-enum-told : tie.Need-enum-told
-enum-told c = search needs
-
 marked-requires : tie.Need-marked-requires
 marked-requires c κs = passes-within _ (c .before .before .before .before .before .pre) .limits .jobs
 
@@ -61,10 +49,10 @@ pub plan-spec : {M : Type 1} → statement M
 plan-spec =
     tie.close
     (tie.spec
-    budget-gate-requires
-    enum-known-refusal
-    unplanned-requires
-    enum-told
+    (λ c κs. search needs)
+    (λ c. search needs)
+    (λ c κs. search needs)
+    (λ c. search needs)
     marked-requires
     budget-value-requires
     search-requires

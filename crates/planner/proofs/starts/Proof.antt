@@ -66,9 +66,6 @@ mul-greater c = record { fits = omega (arith, job-fits c) }
 element-copy-out-greater : tie.Need-element-copy-out-greater Inv-loop μ-loop
 element-copy-out-greater c = job-fits c
 
-greater-requires : tie.Need-greater-requires Inv-loop μ-loop
-greater-requires c κs = search needs
-
 mul-starts : tie.Need-mul-starts Inv-loop μ-loop
 mul-starts c = record { fits = omega (arith, job-fits (c .before .before)) }
 
@@ -88,12 +85,6 @@ sum-requires c κs =
     let j = getD (start .args .t2) (c .before .before .before .before .loop .k) 0 in
     let t = start-time (c .before) in
     simp (toZ-ofZ, time-fits t, length-fits (lengths-within b (start .pre .0)) j) (time-moderate t, length-moderate (ranges b (start .pre .0) j))
-
-add-k : tie.Need-add-k Inv-loop μ-loop
-add-k c = search needs
-
-loop-less : tie.Need-loop-less Inv-loop μ-loop
-loop-less c = search needs
 
 loop-again : tie.Need-loop-again Inv-loop μ-loop
 loop-again c =
@@ -126,13 +117,13 @@ starts-spec =
     array-read-job
     mul-greater
     element-copy-out-greater
-    greater-requires
+    (λ c κs. search needs)
     mul-starts
     array-set-from-starts
     mul-sum
     element-copy-out-sum
     sum-requires
-    add-k
-    loop-less
+    (λ c. search needs)
+    (λ c. search needs)
     loop-again
     returns)

@@ -5,56 +5,11 @@ use Rattle.numerals.specs.Written.{weaken-written}
 use Rattle.replies.proofs.put_answer.Statement.{statement}
 use Rattle.replies.proofs.put_answer.Tie as tie
 
-enum-known-answer : tie.Need-enum-known-answer
-enum-known-answer c = search needs
-
-slice-aggregate-print : tie.Need-slice-aggregate-print
-slice-aggregate-print c = search needs
-
-slice-aggregate-print-2 : tie.Need-slice-aggregate-print-2
-slice-aggregate-print-2 c = search needs
-
-slice-aggregate-print-3 : tie.Need-slice-aggregate-print-3
-slice-aggregate-print-3 c = search needs
-
-print-requires : tie.Need-print-requires
-print-requires c κs = search needs
-
-enum-told : tie.Need-enum-told
-enum-told c = search needs
-
-slice-aggregate-print-4 : tie.Need-slice-aggregate-print-4
-slice-aggregate-print-4 c = search needs
-
-slice-aggregate-print-5 : tie.Need-slice-aggregate-print-5
-slice-aggregate-print-5 c = search needs
-
-slice-aggregate-print-6 : tie.Need-slice-aggregate-print-6
-slice-aggregate-print-6 c = search needs
-
-print-requires-2 : tie.Need-print-requires-2
-print-requires-2 c κs = search needs
-
-enum-known-answer-2 : tie.Need-enum-known-answer-2
-enum-known-answer-2 c = search needs
-
-put-refusal-requires : tie.Need-put-refusal-requires
-put-refusal-requires c κs = search needs
-
-same-length : tie.Need-same-length
-same-length c = search needs
-
 returns : tie.Need-returns
 returns c = rw (c .before .before .before .before .before .before .before .before .answer .given .1) (weaken-written (c .before .before .print .ensures) (omega arith))
 
-same-length-2 : tie.Need-same-length-2
-same-length-2 c = search needs
-
 returns-2 : tie.Need-returns-2
 returns-2 c = rw (c .before .before .before .before .before .before .before .enum-told .given .1) (weaken-written (c .before .before .print2 .ensures) (omega arith))
-
-same-length-3 : tie.Need-same-length-3
-same-length-3 c = search needs
 
 returns-3 : tie.Need-returns-3
 returns-3 c = rw (c .before .before .before .before .before .answer2 .given .1) (c .before .before .put-refusal .ensures)
@@ -63,21 +18,21 @@ pub put-answer-spec : {M : Type 1} → statement M
 put-answer-spec =
     tie.close
     (tie.spec
-    enum-known-answer
-    slice-aggregate-print
-    slice-aggregate-print-2
-    slice-aggregate-print-3
-    print-requires
-    enum-told
-    slice-aggregate-print-4
-    slice-aggregate-print-5
-    slice-aggregate-print-6
-    print-requires-2
-    enum-known-answer-2
-    put-refusal-requires
-    same-length
+    (λ c. search needs)
+    (λ c. search needs)
+    (λ c. search needs)
+    (λ c. search needs)
+    (λ c κs. search needs)
+    (λ c. search needs)
+    (λ c. search needs)
+    (λ c. search needs)
+    (λ c. search needs)
+    (λ c κs. search needs)
+    (λ c. search needs)
+    (λ c κs. search needs)
+    (λ c. search needs)
     returns
-    same-length-2
+    (λ c. search needs)
     returns-2
-    same-length-3
+    (λ c. search needs)
     returns-3)

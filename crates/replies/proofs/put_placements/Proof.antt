@@ -29,20 +29,8 @@ abbrev μ-loop : tie.MeasureT-loop
 loop-holds : tie.Need-loop-holds Inv-loop μ-loop
 loop-holds c = (omega arith, refl, rw (no-placements (placing (c .before .args .placed) (c .before .args .t4))) (weaken-written (nothing-written _ _) (omega arith)))
 
-mul-put-placement : tie.Need-mul-put-placement Inv-loop μ-loop
-mul-put-placement c = search needs
-
-array-copy-out-put-placement : tie.Need-array-copy-out-put-placement Inv-loop μ-loop
-array-copy-out-put-placement c = search needs
-
 put-placement-requires : tie.Need-put-placement-requires Inv-loop μ-loop
 put-placement-requires c κs = let at = c .before .before .before in (c .before .before .loop-test .taken, omega (arith, at .loop .inv .1, at .loop .inv .2 .room, at .before .before .pre))
-
-add-job : tie.Need-add-job Inv-loop μ-loop
-add-job c = search needs
-
-loop-less : tie.Need-loop-less Inv-loop μ-loop
-loop-less c = search needs
 
 loop-again : tie.Need-loop-again Inv-loop μ-loop
 loop-again c =
@@ -71,11 +59,11 @@ put-placements-spec =
     Inv-loop
     μ-loop
     loop-holds
-    mul-put-placement
-    array-copy-out-put-placement
+    (λ c. search needs)
+    (λ c. search needs)
     put-placement-requires
-    add-job
-    loop-less
+    (λ c. search needs)
+    (λ c. search needs)
     loop-again
     same-length
     returns)

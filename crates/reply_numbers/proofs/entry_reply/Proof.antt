@@ -3,21 +3,6 @@ use borrow.Author.Needs.{needs}
 use Rattle.reply_numbers.proofs.entry_reply.Statement.{statement}
 use Rattle.reply_numbers.proofs.entry_reply.Tie as tie
 
-enum-known-answer : tie.Need-enum-known-answer
-enum-known-answer c = search needs
-
-enum-told : tie.Need-enum-told
-enum-told c = search needs
-
-enum-known-answer-2 : tie.Need-enum-known-answer-2
-enum-known-answer-2 c = search needs
-
-number-requires : tie.Need-number-requires
-number-requires c κs = search needs
-
-cast-t7 : tie.Need-cast-t7
-cast-t7 c = search needs
-
 returns : tie.Need-returns
 returns c = rw (c .before .answer .given .1)
 
@@ -31,11 +16,11 @@ pub entry-reply-spec : {M : Type 1} → statement M
 entry-reply-spec =
     tie.close
     (tie.spec
-    enum-known-answer
-    enum-told
-    enum-known-answer-2
-    number-requires
-    cast-t7
+    (λ c. search needs)
+    (λ c. search needs)
+    (λ c. search needs)
+    (λ c κs. search needs)
+    (λ c. search needs)
     returns
     returns-2
     returns-3)

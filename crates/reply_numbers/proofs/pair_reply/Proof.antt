@@ -6,15 +6,6 @@ use mir.ValLaws.{toZ-ofZ}
 use Rattle.reply_numbers.proofs.pair_reply.Statement.{statement}
 use Rattle.reply_numbers.proofs.pair_reply.Tie as tie
 
-enum-known-pair : tie.Need-enum-known-pair
-enum-known-pair c = search needs
-
-enum-known-pair-2 : tie.Need-enum-known-pair-2
-enum-known-pair-2 c = search needs
-
-number-requires : tie.Need-number-requires
-number-requires c κs = search needs
-
 returns : tie.Need-returns
 returns c =
     let fits : SFits w32 (c .before .pair .given .0 .1 .0) = search needs in
@@ -25,4 +16,4 @@ returns-2 c = rw (c .before .before .pair2 .given .1, c .number .ensures)
 
 pub pair-reply-spec : {M : Type 1} → statement M
 pair-reply-spec =
-    tie.close (tie.spec enum-known-pair enum-known-pair-2 number-requires returns returns-2)
+    tie.close (tie.spec (λ c. search needs) (λ c. search needs) (λ c κs. search needs) returns returns-2)

@@ -3,14 +3,8 @@ use borrow.Author.Needs.{needs}
 use Rattle.reply_numbers.proofs.plan_reply.Statement.{statement}
 use Rattle.reply_numbers.proofs.plan_reply.Tie as tie
 
-ending-requires : tie.Need-ending-requires
-ending-requires c κs = search needs
-
-plan-number-requires : tie.Need-plan-number-requires
-plan-number-requires c κs = search needs
-
 returns : tie.Need-returns
 returns c = rw (c .before .ending .ensures, c .plan-number .ensures)
 
 pub plan-reply-spec : {M : Type 1} → statement M
-plan-reply-spec = tie.close (tie.spec ending-requires plan-number-requires returns)
+plan-reply-spec = tie.close (tie.spec (λ c κs. search needs) (λ c κs. search needs) returns)

@@ -6,15 +6,6 @@ use mir.ValLaws.{toZ-ofZ}
 use Rattle.reply_numbers.proofs.row_reply.Statement.{statement}
 use Rattle.reply_numbers.proofs.row_reply.Tie as tie
 
-enum-known-row : tie.Need-enum-known-row
-enum-known-row c = search needs
-
-enum-known-row-2 : tie.Need-enum-known-row-2
-enum-known-row-2 c = search needs
-
-number-requires : tie.Need-number-requires
-number-requires c κs = search needs
-
 returns : tie.Need-returns
 returns c =
     let row = c .before .row .given .0 in
@@ -27,4 +18,4 @@ returns-2 c = rw (c .before .before .row2 .given .1, c .number .ensures)
 
 pub row-reply-spec : {M : Type 1} → statement M
 row-reply-spec =
-    tie.close (tie.spec enum-known-row enum-known-row-2 number-requires returns returns-2)
+    tie.close (tie.spec (λ c. search needs) (λ c. search needs) (λ c κs. search needs) returns returns-2)

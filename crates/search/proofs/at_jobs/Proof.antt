@@ -30,27 +30,6 @@ abbrev μ-loop : tie.MeasureT-loop
 loop-holds : tie.Need-loop-holds Inv-loop μ-loop
 loop-holds c = (search needs, omega arith, omega arith, λ b h. all-left h (c .fits .live .fits) _)
 
-lowest-requires : tie.Need-lowest-requires Inv-loop μ-loop
-lowest-requires c κs = search needs
-
-difference-requires : tie.Need-difference-requires Inv-loop μ-loop
-difference-requires c κs = search needs
-
-without-lowest-requires : tie.Need-without-lowest-requires Inv-loop μ-loop
-without-lowest-requires c κs = search needs
-
-representative-requires : tie.Need-representative-requires Inv-loop μ-loop
-representative-requires c κs = search needs
-
-representative-requires-2 : tie.Need-representative-requires-2 Inv-loop μ-loop
-representative-requires-2 c κs = search needs
-
-at-job-requires : tie.Need-at-job-requires Inv-loop μ-loop
-at-job-requires c κs = search needs
-
-enum-known-single : tie.Need-enum-known-single Inv-loop μ-loop
-enum-known-single c = search needs
-
 -- from the search at a job back to the word without it, to the jobs done, to the turn's begin
 abbrev rest-of : tie.After-at-job Inv-loop μ-loop → tie.After-without-lowest Inv-loop μ-loop
 rest-of c = c .before .before .before
@@ -82,9 +61,6 @@ searched c b h =
 returns : tie.Need-returns Inv-loop μ-loop
 returns c b h = rw (ap inferredOf (c .before .single .given .1)) at (searched (c .before .before .before) b h)
 
-enum-told : tie.Need-enum-told Inv-loop μ-loop
-enum-told c = search needs
-
 loop-less : tie.Need-loop-less Inv-loop μ-loop
 loop-less c =
     let job = c .before .before in
@@ -113,15 +89,15 @@ at-jobs-spec =
     Inv-loop
     μ-loop
     loop-holds
-    lowest-requires
-    difference-requires
-    without-lowest-requires
-    representative-requires
-    representative-requires-2
-    at-job-requires
-    enum-known-single
+    (λ c κs. search needs)
+    (λ c κs. search needs)
+    (λ c κs. search needs)
+    (λ c κs. search needs)
+    (λ c κs. search needs)
+    (λ c κs. search needs)
+    (λ c. search needs)
     returns
-    enum-told
+    (λ c. search needs)
     loop-less
     loop-again
     returns-2)

@@ -12,15 +12,6 @@ use Rattle.search.specs.PairsWalk.{AppliesAt, EarliestEnd, row-read, sea
 use Rattle.search.proofs.at_pairs.Statement.{statement}
 use Rattle.search.proofs.at_pairs.Tie as tie
 
-find-pair-requires : tie.Need-find-pair-requires
-find-pair-requires c κs = search needs
-
-enum-known-pair : tie.Need-enum-known-pair
-enum-known-pair c = search needs
-
-enum-told : tie.Need-enum-told
-enum-told c = search needs
-
 returns : tie.Need-returns
 returns c = rw (c .enum-told .given .1) at (c .before .before .find-pair .ensures)
 
@@ -82,9 +73,9 @@ pub at-pairs-spec : {M : Type 1} → statement M
 at-pairs-spec =
     tie.close
     (tie.spec
-    find-pair-requires
-    enum-known-pair
-    enum-told
+    (λ c κs. search needs)
+    (λ c. search needs)
+    (λ c. search needs)
     returns
     earliest-end-requires
     ends-late-requires

@@ -10,18 +10,6 @@ use Rattle.energy.specs.Laws.{time-fits, length-fits, length-moderate, end-mode
 use Rattle.search.proofs.earliest_end.Statement.{statement}
 use Rattle.search.proofs.earliest_end.Tie as tie
 
-mul-sum : tie.Need-mul-sum
-mul-sum c = search needs
-
-element-copy-out-sum : tie.Need-element-copy-out-sum
-element-copy-out-sum c = search needs
-
-mul-sum-2 : tie.Need-mul-sum-2
-mul-sum-2 c = search needs
-
-element-copy-out-sum-2 : tie.Need-element-copy-out-sum-2
-element-copy-out-sum-2 c = search needs
-
 sum-requires : tie.Need-sum-requires
 sum-requires c κs =
     let start = c .before .before in
@@ -40,4 +28,4 @@ returns c =
 pub earliest-end-spec : {M : Type 1} → statement M
 earliest-end-spec =
     tie.close
-    (tie.spec mul-sum element-copy-out-sum mul-sum-2 element-copy-out-sum-2 sum-requires returns)
+    (tie.spec (λ c. search needs) (λ c. search needs) (λ c. search needs) (λ c. search needs) sum-requires returns)

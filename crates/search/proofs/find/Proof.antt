@@ -6,20 +6,8 @@ use Rattle.search.specs.PairsWalk.{jobs-searched}
 use Rattle.search.proofs.find.Statement.{statement}
 use Rattle.search.proofs.find.Tie as tie
 
-at-pairs-requires : tie.Need-at-pairs-requires
-at-pairs-requires c κs = search needs
-
-enum-known-pairs : tie.Need-enum-known-pairs
-enum-known-pairs c = search needs
-
 returns : tie.Need-returns
 returns c b h = rw (ap inferredOf (c .before .pairs .given .1)) at (c .before .before .before .at-pairs .ensures b h)
-
-enum-told : tie.Need-enum-told
-enum-told c = search needs
-
-at-jobs-requires : tie.Need-at-jobs-requires
-at-jobs-requires c κs = search needs
 
 returns-2 : tie.Need-returns-2
 returns-2 c b h =
@@ -30,4 +18,4 @@ returns-2 c b h =
 pub find-spec : {M : Type 1} → statement M
 find-spec =
     tie.close
-    (tie.spec at-pairs-requires enum-known-pairs returns enum-told at-jobs-requires returns-2)
+    (tie.spec (λ c κs. search needs) (λ c. search needs) returns (λ c. search needs) (λ c κs. search needs) returns-2)

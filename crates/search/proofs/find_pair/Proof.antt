@@ -72,32 +72,8 @@ row-reads c b h =
     let low = c .before .before .lowest in
     row-read h (low .result) (walk-of (c .before) .pairs .inv .2 b h .member (low .result) (low .ensures .member)) _ (end-is c .is)
 
-latest-start-requires : tie.Need-latest-start-requires Inv-loop μ-loop Inv-pairs μ-pairs
-latest-start-requires c κs = search needs
-
 pairs-holds : tie.Need-pairs-holds Inv-loop μ-loop Inv-pairs μ-pairs
 pairs-holds c = (refl, c .before .fits .live .fits, λ b h. all-left h (c .before .fits .live .fits) _)
-
-lowest-requires : tie.Need-lowest-requires Inv-loop μ-loop Inv-pairs μ-pairs
-lowest-requires c κs = search needs
-
-without-lowest-requires : tie.Need-without-lowest-requires Inv-loop μ-loop Inv-pairs μ-pairs
-without-lowest-requires c κs = search needs
-
-earliest-end-requires : tie.Need-earliest-end-requires Inv-loop μ-loop Inv-pairs μ-pairs
-earliest-end-requires c κs = search needs
-
-mul-into : tie.Need-mul-into Inv-loop μ-loop Inv-pairs μ-pairs
-mul-into c = search needs
-
-element-copy-out-into : tie.Need-element-copy-out-into Inv-loop μ-loop Inv-pairs μ-pairs
-element-copy-out-into c = search needs
-
-mul-out : tie.Need-mul-out Inv-loop μ-loop Inv-pairs μ-pairs
-mul-out c = search needs
-
-element-copy-out-out : tie.Need-element-copy-out-out Inv-loop μ-loop Inv-pairs μ-pairs
-element-copy-out-out c = search needs
 
 partners-requires : tie.Need-partners-requires Inv-loop μ-loop Inv-pairs μ-pairs
 partners-requires c κs =
@@ -131,25 +107,10 @@ pairs-again c =
           (none-left jobLimit _ _ (subst (PairsLeft (view b) i) (c .loop-test .left) (inv .2 b h))),
     )
 
-lowest-requires-2 : tie.Need-lowest-requires-2 Inv-loop μ-loop Inv-pairs μ-pairs
-lowest-requires-2 c κs = search needs
-
-without-lowest-requires-2 : tie.Need-without-lowest-requires-2 Inv-loop μ-loop Inv-pairs μ-pairs
-without-lowest-requires-2 c κs = search needs
-
 ends-late-requires : tie.Need-ends-late-requires Inv-loop μ-loop Inv-pairs μ-pairs
 ends-late-requires c κs =
     let end = end-is (end-of (c .before .before .before)) .moderate in
     search needs
-
-mul-applies : tie.Need-mul-applies Inv-loop μ-loop Inv-pairs μ-pairs
-mul-applies c = search needs
-
-element-copy-out-applies : tie.Need-element-copy-out-applies Inv-loop μ-loop Inv-pairs μ-pairs
-element-copy-out-applies c = search needs
-
-applies-requires : tie.Need-applies-requires Inv-loop μ-loop Inv-pairs μ-pairs
-applies-requires c κs = search needs
 
 -- the second job of a pair is live and another one
 apart : (c : tie.After-lowest2 Inv-loop μ-loop Inv-pairs μ-pairs) (b : Board)
@@ -207,25 +168,25 @@ find-pair-spec =
     μ-loop
     Inv-pairs
     μ-pairs
-    latest-start-requires
+    (λ c κs. search needs)
     pairs-holds
-    lowest-requires
-    without-lowest-requires
-    earliest-end-requires
-    mul-into
-    element-copy-out-into
-    mul-out
-    element-copy-out-out
+    (λ c κs. search needs)
+    (λ c κs. search needs)
+    (λ c κs. search needs)
+    (λ c. search needs)
+    (λ c. search needs)
+    (λ c. search needs)
+    (λ c. search needs)
     partners-requires
     loop-holds
     pairs-less
     pairs-again
-    lowest-requires-2
-    without-lowest-requires-2
+    (λ c κs. search needs)
+    (λ c κs. search needs)
     ends-late-requires
-    mul-applies
-    element-copy-out-applies
-    applies-requires
+    (λ c. search needs)
+    (λ c. search needs)
+    (λ c κs. search needs)
     loop-less
     loop-again
     returns

@@ -49,9 +49,6 @@ same-length c = c .before .before .loop .inv .0
 returns : tie.Need-returns Inv-loop μ-loop
 returns c = full _ _ _ _ _ _ (c .before .before .loop .inv .1) (c .if1 .taken) (omega (arith, c .before .before .loop .inv .0, c .before .before .before .before .before .pre .1))
 
-line-length-requires : tie.Need-line-length-requires Inv-loop μ-loop
-line-length-requires c κs = search needs
-
 put-refusal-requires : tie.Need-put-refusal-requires Inv-loop μ-loop
 put-refusal-requires c κs = space (c .before .before .before)
 
@@ -72,9 +69,6 @@ part-read-start c = omega (arith, ended c)
 
 part-read-end : tie.Need-part-read-end Inv-loop μ-loop
 part-read-end c = omega (arith, ended c)
-
-read-requires : tie.Need-read-requires Inv-loop μ-loop
-read-requires c κs = search needs
 
 answer-requires : tie.Need-answer-requires Inv-loop μ-loop
 answer-requires c κs = (c .before .before .before .before .before .before .before .loop .inv .1 .passes, space (c .before .before .before .before .before))
@@ -120,14 +114,14 @@ next-spec =
     sub-t16
     same-length
     returns
-    line-length-requires
+    (λ c κs. search needs)
     put-refusal-requires
     same-length-2
     returns-2
     sub-read
     part-read-start
     part-read-end
-    read-requires
+    (λ c κs. search needs)
     answer-requires
     add-after
     sub-rest

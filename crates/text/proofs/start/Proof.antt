@@ -7,26 +7,11 @@ use Rattle.text.specs.Load.{overloaded-answers, loaded-answers}
 use Rattle.text.proofs.start.Statement.{statement}
 use Rattle.text.proofs.start.Tie as tie
 
-put-refusal-requires : tie.Need-put-refusal-requires
-put-refusal-requires c κs = search needs
-
-empty-requires : tie.Need-empty-requires
-empty-requires c κs = search needs
-
-same-length : tie.Need-same-length
-same-length c = search needs
-
 returns : tie.Need-returns
 returns c = overloaded-answers _ _ (c .empty .ensures) _ _ _ (c .before .before .before .before .before .if1 .taken) (search needs) (c .before .before .before .put-refusal .kept .0) (c .before .before .before .put-refusal .ensures)
 
-empty-requires-2 : tie.Need-empty-requires-2
-empty-requires-2 c κs = search needs
-
 next-requires : tie.Need-next-requires
 next-requires c κs = (rw (c .before .empty2 .ensures) (empty-passes emptyBooks within-emptyBooks), search needs)
-
-same-length-2 : tie.Need-same-length-2
-same-length-2 c = search needs
 
 returns-2 : tie.Need-returns-2
 returns-2 c = loaded-answers _ _ (c .before .before .before .before .empty2 .ensures) _ _ (c .before .before .before .before .before .if1 .left) (c .before .before .next .ensures)
@@ -35,11 +20,11 @@ pub start-spec : {M : Type 1} → statement M
 start-spec =
     tie.close
     (tie.spec
-    put-refusal-requires
-    empty-requires
-    same-length
+    (λ c κs. search needs)
+    (λ c κs. search needs)
+    (λ c. search needs)
     returns
-    empty-requires-2
+    (λ c κs. search needs)
     next-requires
-    same-length-2
+    (λ c. search needs)
     returns-2)

@@ -4,14 +4,8 @@ use Rattle.transposition.specs.Transpose.{bit-lower}
 use Rattle.transposition.proofs.lower.Statement.{statement}
 use Rattle.transposition.proofs.lower.Tie as tie
 
-shr-result : tie.Need-shr-result
-shr-result c = search needs
-
-shl-result : tie.Need-shl-result
-shl-result c = search needs
-
 returns : tie.Need-returns
 returns c = bit-lower _ _ _ _ (c .pre)
 
 pub lower-spec : {M : Type 1} → statement M
-lower-spec = tie.close (tie.spec shr-result shl-result returns)
+lower-spec = tie.close (tie.spec (λ c. search needs) (λ c. search needs) returns)

@@ -4,11 +4,8 @@ use Rattle.transposition.specs.Transpose.{bit-upper}
 use Rattle.transposition.proofs.upper.Statement.{statement}
 use Rattle.transposition.proofs.upper.Tie as tie
 
-shr-result : tie.Need-shr-result
-shr-result c = search needs
-
 returns : tie.Need-returns
 returns c = bit-upper _ _ _ _
 
 pub upper-spec : {M : Type 1} → statement M
-upper-spec = tie.close (tie.spec shr-result returns)
+upper-spec = tie.close (tie.spec (λ c. search needs) returns)

@@ -27,15 +27,6 @@ let-pass c = rw (c .enum-told .given .1) at (said (c .before .before))
 numbers : (c : tie.After-enum-told) → let a = c .before .before .before .args in PairNumbers (a .board .jobs) (a .a) (a .b)
 numbers c = pair-numbers _ _ _ (sym (let-pass c))
 
-pair-gate-requires : tie.Need-pair-gate-requires
-pair-gate-requires c κs = search needs
-
-enum-known-refusal : tie.Need-enum-known-refusal
-enum-known-refusal c = search needs
-
-enum-told : tie.Need-enum-told
-enum-told c = search needs
-
 index-requires : tie.Need-index-requires
 index-requires c κs = simp (toZ-ofZ, c .before .before .before .fits .a) (numbers c .first .low)
 
@@ -74,9 +65,9 @@ pub pair-spec : {M : Type 1} → statement M
 pair-spec =
     tie.close
     (tie.spec
-    pair-gate-requires
-    enum-known-refusal
-    enum-told
+    (λ c κs. search needs)
+    (λ c. search needs)
+    (λ c. search needs)
     index-requires
     index-requires-2
     shown-pair-requires

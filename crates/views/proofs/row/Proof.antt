@@ -28,15 +28,6 @@ let-pass c = rw (c .enum-told .given .1) at (said (c .before .before))
 numbers : (c : tie.After-enum-told) → let a = c .before .before .before .args in IsJob (a .board .jobs) (a .job)
 numbers c = job-numbers _ _ (sym (let-pass c))
 
-job-gate-requires : tie.Need-job-gate-requires
-job-gate-requires c κs = search needs
-
-enum-known-refusal : tie.Need-enum-known-refusal
-enum-known-refusal c = search needs
-
-enum-told : tie.Need-enum-told
-enum-told c = search needs
-
 index-requires : tie.Need-index-requires
 index-requires c κs = simp (toZ-ofZ, c .before .before .before .fits .job) (numbers c .low)
 
@@ -64,9 +55,9 @@ pub row-spec : {M : Type 1} → statement M
 row-spec =
     tie.close
     (tie.spec
-    job-gate-requires
-    enum-known-refusal
-    enum-told
+    (λ c κs. search needs)
+    (λ c. search needs)
+    (λ c. search needs)
     index-requires
     shown-row-requires
     returns

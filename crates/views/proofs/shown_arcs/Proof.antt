@@ -3,27 +3,6 @@ use borrow.Author.Needs.{needs}
 use Rattle.views.proofs.shown_arcs.Statement.{statement}
 use Rattle.views.proofs.shown_arcs.Tie as tie
 
-mul-has : tie.Need-mul-has
-mul-has c = search needs
-
-element-copy-out-has : tie.Need-element-copy-out-has
-element-copy-out-has c = search needs
-
-has-requires : tie.Need-has-requires
-has-requires c κs = search needs
-
-mul-has-2 : tie.Need-mul-has-2
-mul-has-2 c = search needs
-
-element-copy-out-has-2 : tie.Need-element-copy-out-has-2
-element-copy-out-has-2 c = search needs
-
-has-requires-2 : tie.Need-has-requires-2
-has-requires-2 c κs = search needs
-
-arcs-requires : tie.Need-arcs-requires
-arcs-requires c κs = search needs
-
 returns : tie.Need-returns
 returns c = rw (← c .before .before .before .has .ensures, ← c .before .has2 .ensures) (c .arcs .ensures)
 
@@ -31,11 +10,11 @@ pub shown-arcs-spec : {M : Type 1} → statement M
 shown-arcs-spec =
     tie.close
     (tie.spec
-    mul-has
-    element-copy-out-has
-    has-requires
-    mul-has-2
-    element-copy-out-has-2
-    has-requires-2
-    arcs-requires
+    (λ c. search needs)
+    (λ c. search needs)
+    (λ c κs. search needs)
+    (λ c. search needs)
+    (λ c. search needs)
+    (λ c κs. search needs)
+    (λ c κs. search needs)
     returns)

@@ -8,18 +8,6 @@ use Rattle.board.specs.Tests.Ranges.{ranges, time-moderate}
 use Rattle.views.proofs.shown_gap.Statement.{statement}
 use Rattle.views.proofs.shown_gap.Tie as tie
 
-mul-gap : tie.Need-mul-gap
-mul-gap c = search needs
-
-element-copy-out-gap : tie.Need-element-copy-out-gap
-element-copy-out-gap c = search needs
-
-mul-gap-2 : tie.Need-mul-gap-2
-mul-gap-2 c = search needs
-
-element-copy-out-gap-2 : tie.Need-element-copy-out-gap-2
-element-copy-out-gap-2 c = search needs
-
 gap-requires : tie.Need-gap-requires
 gap-requires c κs =
     let start = c .before .before in
@@ -40,4 +28,4 @@ returns c =
 pub shown-gap-spec : {M : Type 1} → statement M
 shown-gap-spec =
     tie.close
-    (tie.spec mul-gap element-copy-out-gap mul-gap-2 element-copy-out-gap-2 gap-requires returns)
+    (tie.spec (λ c. search needs) (λ c. search needs) (λ c. search needs) (λ c. search needs) gap-requires returns)

@@ -10,24 +10,6 @@ use Rattle.board.specs.Paper.Tests.{live}
 use Rattle.views.proofs.shown_pair.Statement.{statement}
 use Rattle.views.proofs.shown_pair.Tie as tie
 
-element-copy-out-is-live : tie.Need-element-copy-out-is-live
-element-copy-out-is-live c = search needs
-
-is-live-requires : tie.Need-is-live-requires
-is-live-requires c κs = search needs
-
-element-copy-out-is-live-2 : tie.Need-element-copy-out-is-live-2
-element-copy-out-is-live-2 c = search needs
-
-is-live-requires-2 : tie.Need-is-live-requires-2
-is-live-requires-2 c κs = search needs
-
-shown-arcs-requires : tie.Need-shown-arcs-requires
-shown-arcs-requires c κs = search needs
-
-shown-gap-requires : tie.Need-shown-gap-requires
-shown-gap-requires c κs = search needs
-
 returns : tie.Need-returns
 unfolding live
 returns c =
@@ -49,11 +31,11 @@ pub shown-pair-spec : {M : Type 1} → statement M
 shown-pair-spec =
     tie.close
     (tie.spec
-    element-copy-out-is-live
-    is-live-requires
-    element-copy-out-is-live-2
-    is-live-requires-2
-    shown-arcs-requires
-    shown-gap-requires
+    (λ c. search needs)
+    (λ c κs. search needs)
+    (λ c. search needs)
+    (λ c κs. search needs)
+    (λ c κs. search needs)
+    (λ c κs. search needs)
     returns
     returns-2)

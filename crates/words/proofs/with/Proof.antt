@@ -6,12 +6,9 @@ use Rattle.words.specs.BitLaws.{singleton-shifted}
 use Rattle.words.proofs.with.Statement.{statement}
 use Rattle.words.proofs.with.Tie as tie
 
-shl-result : tie.Need-shl-result
-shl-result c = search needs
-
 returns : tie.Need-returns
 unfolding with union
 returns c = ap (union (c .args .w)) (singleton-shifted 64 (c .args .k) (c .pre))
 
 pub with-spec : {M : Type 1} → statement M
-with-spec = tie.close (tie.spec shl-result returns)
+with-spec = tie.close (tie.spec (λ c. search needs) returns)

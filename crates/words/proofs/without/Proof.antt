@@ -6,12 +6,9 @@ use Rattle.words.specs.BitLaws.{singleton-shifted}
 use Rattle.words.proofs.without.Statement.{statement}
 use Rattle.words.proofs.without.Tie as tie
 
-shl-result : tie.Need-shl-result
-shl-result c = search needs
-
 returns : tie.Need-returns
 unfolding without difference
 returns c = ap (difference 64 (c .args .w)) (singleton-shifted 64 (c .args .k) (c .pre))
 
 pub without-spec : {M : Type 1} → statement M
-without-spec = tie.close (tie.spec shl-result returns)
+without-spec = tie.close (tie.spec (λ c. search needs) returns)

@@ -4,11 +4,8 @@ use mir.ValLaws.{toZ-ofZ}
 use Rattle.board.proofs.range.is_length.Statement.{statement}
 use Rattle.board.proofs.range.is_length.Tie as tie
 
-between-requires : tie.Need-between-requires
-between-requires c κs = search needs
-
 returns : tie.Need-returns
 returns c = simp (toZ-ofZ, c .before .fits .z) at (c .between .ensures)
 
 pub is-length-spec : {M : Type 1} → statement M
-is-length-spec = tie.close (tie.spec between-requires returns)
+is-length-spec = tie.close (tie.spec (λ c κs. search needs) returns)

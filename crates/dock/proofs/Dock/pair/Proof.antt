@@ -6,9 +6,6 @@ use Rattle.entries.specs.Paper.Looking.{pair}
 use Rattle.dock.proofs.Dock.pair.Statement.{statement}
 use Rattle.dock.proofs.Dock.pair.Tie as tie
 
-passes-requires : tie.Need-passes-requires
-passes-requires c κs = search needs
-
 pair-requires : tie.Need-pair-requires
 pair-requires c κs = sym (c .before .passes .ensures) ∙ c .if1 .taken
 
@@ -22,4 +19,4 @@ unfolding pair
 returns-2 c = rw (sym (c .before .passes .ensures) ∙ c .if1 .left, pair)
 
 pub pair-spec : {M : Type 1} → statement M
-pair-spec = tie.close (tie.spec passes-requires pair-requires returns returns-2)
+pair-spec = tie.close (tie.spec (λ c κs. search needs) pair-requires returns returns-2)

@@ -6,14 +6,8 @@ use Rattle.tries.specs.Paper.Planner.{plan}
 use Rattle.dock.proofs.Dock.plan.Statement.{statement}
 use Rattle.dock.proofs.Dock.plan.Tie as tie
 
-passes-requires : tie.Need-passes-requires
-passes-requires c κs = search needs
-
 plan-requires : tie.Need-plan-requires
 plan-requires c κs = sym (c .before .passes .ensures) ∙ c .if1 .taken
-
-unplanned-requires : tie.Need-unplanned-requires
-unplanned-requires c κs = search needs
 
 returns : tie.Need-returns
 returns c =
@@ -25,4 +19,4 @@ unfolding plan
 returns-2 c = rw (sym (c .before .before .passes .ensures) ∙ c .before .if1 .left, plan) (c .unplanned .ensures)
 
 pub plan-spec : {M : Type 1} → statement M
-plan-spec = tie.close (tie.spec passes-requires plan-requires unplanned-requires returns returns-2)
+plan-spec = tie.close (tie.spec (λ c κs. search needs) plan-requires (λ c κs. search needs) returns returns-2)

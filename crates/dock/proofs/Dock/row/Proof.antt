@@ -6,9 +6,6 @@ use Rattle.entries.specs.Paper.Looking.{row}
 use Rattle.dock.proofs.Dock.row.Statement.{statement}
 use Rattle.dock.proofs.Dock.row.Tie as tie
 
-passes-requires : tie.Need-passes-requires
-passes-requires c κs = search needs
-
 row-requires : tie.Need-row-requires
 row-requires c κs = sym (c .before .passes .ensures) ∙ c .if1 .taken
 
@@ -22,4 +19,4 @@ unfolding row
 returns-2 c = rw (sym (c .before .passes .ensures) ∙ c .if1 .left, row)
 
 pub row-spec : {M : Type 1} → statement M
-row-spec = tie.close (tie.spec passes-requires row-requires returns returns-2)
+row-spec = tie.close (tie.spec (λ c κs. search needs) row-requires returns returns-2)

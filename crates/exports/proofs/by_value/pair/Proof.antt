@@ -6,16 +6,10 @@ use Rattle.reply_numbers.specs.Replies.{pairReply}
 use Rattle.exports.proofs.by_value.pair.Statement.{statement}
 use Rattle.exports.proofs.by_value.pair.Tie as tie
 
-pair-requires : tie.Need-pair-requires
-pair-requires c κs = search needs
-
-pair-reply-requires : tie.Need-pair-reply-requires
-pair-reply-requires c κs = search needs
-
 returns : tie.Need-returns
 returns c =
     let f = c .before .before .fits in
     c .pair-reply .ensures ∙ ap pairReply (simp (toZ-ofZ, f .a, f .b) at (c .before .pair .ensures))
 
 pub pair-spec : {M : Type 1} → statement M
-pair-spec = tie.close (tie.spec pair-requires pair-reply-requires returns)
+pair-spec = tie.close (tie.spec (λ c κs. search needs) (λ c κs. search needs) returns)

@@ -9,11 +9,8 @@ use Rattle.formats.proofs.scan.starts_with.Tie as tie
 returns : tie.Need-returns
 returns c = sym (starts-none (c .before .args .byte) (c .before .args .text .now) (c .if1 .taken))
 
-shared-slice-read-result : tie.Need-shared-slice-read-result
-shared-slice-read-result c = search needs
-
 returns-2 : tie.Need-returns-2
 returns-2 c = sym (starts-first (c .before .before .args .byte) (c .before .before .args .text .now) (omega arith))
 
 pub starts-with-spec : {M : Type 1} → statement M
-starts-with-spec = tie.close (tie.spec returns shared-slice-read-result returns-2)
+starts-with-spec = tie.close (tie.spec returns (λ c. search needs) returns-2)

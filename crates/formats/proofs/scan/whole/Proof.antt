@@ -6,9 +6,6 @@ use borrow.Author.Tests.{eq-eqb, ne-eqb}
 use Rattle.formats.proofs.scan.whole.Statement.{statement}
 use Rattle.formats.proofs.scan.whole.Tie as tie
 
-unmatched-requires : tie.Need-unmatched-requires
-unmatched-requires c κs = search needs
-
 returns : tie.Need-returns
 returns c = let more = c .before .if1 .taken in rw (ne-eqb (length (c .before .before .before .args .text .now)) 0 (omega (arith, more))) (c .unmatched .ensures)
 
@@ -16,4 +13,4 @@ returns-2 : tie.Need-returns-2
 returns-2 c = let ended = c .if1 .left in rw (eq-eqb (length (c .before .before .args .text .now)) 0 (omega (arith, ended)))
 
 pub whole-spec : {M : Type 1} → statement M
-whole-spec = tie.close (tie.spec unmatched-requires returns returns-2)
+whole-spec = tie.close (tie.spec (λ c κs. search needs) returns returns-2)

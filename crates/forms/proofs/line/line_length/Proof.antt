@@ -17,23 +17,11 @@ Inv-loop text n₀ n = (n ≤ length text) × (lineLength text ≡ n + lineLengt
 abbrev μ-loop : tie.MeasureT-loop
 μ-loop text n₀ n = length text - n
 
-loop-holds : tie.Need-loop-holds Inv-loop μ-loop
-loop-holds c = search needs
-
-shared-slice-read-if1 : tie.Need-shared-slice-read-if1 Inv-loop μ-loop
-shared-slice-read-if1 c = search needs
-
 returns : tie.Need-returns Inv-loop μ-loop
 returns c =
     let at = c .before .before .before in
     let ends = prefix-ends inLine (at .before .args .text .now) (at .loop .n) (c .before .before .loop-test .taken) (ap not (eq-eqb _ _ (c .if1 .taken))) in
     omega (arith, ends, at .loop .inv .1)
-
-add-n : tie.Need-add-n Inv-loop μ-loop
-add-n c = search needs
-
-loop-less : tie.Need-loop-less Inv-loop μ-loop
-loop-less c = search needs
 
 loop-again : tie.Need-loop-again Inv-loop μ-loop
 loop-again c =
@@ -53,10 +41,10 @@ line-length-spec =
     (tie.spec
     Inv-loop
     μ-loop
-    loop-holds
-    shared-slice-read-if1
+    (λ c. search needs)
+    (λ c. search needs)
     returns
-    add-n
-    loop-less
+    (λ c. search needs)
+    (λ c. search needs)
     loop-again
     returns-2)

@@ -10,16 +10,10 @@ use Rattle.numerals.specs.Numerals.{digits}
 use Rattle.numerals.proofs.read.is_natural.Statement.{statement}
 use Rattle.numerals.proofs.read.is_natural.Tie as tie
 
-returns : tie.Need-returns
-returns c = search needs
-
 returns-2 : tie.Need-returns-2
 returns-2 c =
     let t = c .before .before .args .text .now in
     rw (le-leb 1 (length (digits t)) (omega arith), lt-leb (length (digits t)) 7 (omega arith))
-
-returns-3 : tie.Need-returns-3
-returns-3 c = search needs
 
 shared-slice-read-result : tie.Need-shared-slice-read-result
 shared-slice-read-result c = omega (arith, prefix-within isDigit (c .before .before .before .before .args .text .now))
@@ -32,4 +26,4 @@ returns-4 c =
 
 pub is-natural-spec : {M : Type 1} → statement M
 is-natural-spec =
-    tie.close (tie.spec returns returns-2 returns-3 shared-slice-read-result returns-4)
+    tie.close (tie.spec (λ c. search needs) returns-2 (λ c. search needs) shared-slice-read-result returns-4)

@@ -9,12 +9,6 @@ use Rattle.numerals.specs.Numerals.{naturalAt}
 use Rattle.numerals.proofs.read.natural.Statement.{statement}
 use Rattle.numerals.proofs.read.natural.Tie as tie
 
-digits-requires : tie.Need-digits-requires
-digits-requires c κs = search needs
-
-is-natural-requires : tie.Need-is-natural-requires
-is-natural-requires c κs = search needs
-
 returns : tie.Need-returns
 unfolding naturalAt
 returns c = rw (sym (c .before .is-natural .ensures) ∙ not-true _ (c .if1 .taken))
@@ -31,4 +25,4 @@ returns-2 c =
 
 pub natural-spec : {M : Type 1} → statement M
 natural-spec =
-    tie.close (tie.spec digits-requires is-natural-requires returns value-requires returns-2)
+    tie.close (tie.spec (λ c κs. search needs) (λ c κs. search needs) returns value-requires returns-2)

@@ -24,15 +24,6 @@ value c = c .length .given .0 .1 .0
 found : (c : tie.After-length) → naturalAt (text c) ≡ Number (bytes c) (value c)
 found c = sym (c .before .before .natural .ensures) ∙ c .length .given .1
 
-natural-requires : tie.Need-natural-requires
-natural-requires c κs = search needs
-
-enum-known-length : tie.Need-enum-known-length
-enum-known-length c = search needs
-
-enum-told : tie.Need-enum-told
-enum-told c = search needs
-
 returns : tie.Need-returns
 returns c = rw (sym (c .before .before .natural .ensures) ∙ c .enum-told .given .1)
 
@@ -60,9 +51,9 @@ pub negative-spec : {M : Type 1} → statement M
 negative-spec =
     tie.close
     (tie.spec
-    natural-requires
-    enum-known-length
-    enum-told
+    (λ c κs. search needs)
+    (λ c. search needs)
+    (λ c. search needs)
     returns
     returns-2
     add-t6

@@ -11,28 +11,13 @@ use Rattle.numerals.proofs.read.number.Tie as tie
 returns : tie.Need-returns
 returns c = sym (number-none (c .before .before .args .text .now) (c .if1 .taken))
 
-shared-slice-read-if2 : tie.Need-shared-slice-read-if2
-shared-slice-read-if2 c = search needs
-
 sub-negative : tie.Need-sub-negative
 sub-negative c = omega arith
-
-part-negative-start : tie.Need-part-negative-start
-part-negative-start c = search needs
-
-part-negative-end : tie.Need-part-negative-end
-part-negative-end c = search needs
-
-negative-requires : tie.Need-negative-requires
-negative-requires c κs = search needs
 
 returns-2 : tie.Need-returns-2
 returns-2 c =
     let t = c .before .before .before .before .before .before .args .text .now in
     rw (number-first t (omega arith), eq-eqb _ _ (c .before .before .if2 .taken)) (rw (rest-drop t 1) at (c .negative .ensures))
-
-natural-requires : tie.Need-natural-requires
-natural-requires c κs = search needs
 
 returns-3 : tie.Need-returns-3
 returns-3 c =
@@ -44,11 +29,11 @@ number-spec =
     tie.close
     (tie.spec
     returns
-    shared-slice-read-if2
+    (λ c. search needs)
     sub-negative
-    part-negative-start
-    part-negative-end
-    negative-requires
+    (λ c. search needs)
+    (λ c. search needs)
+    (λ c κs. search needs)
     returns-2
-    natural-requires
+    (λ c κs. search needs)
     returns-3)

@@ -35,9 +35,6 @@ short c =
     let few = natural-parts (digits t) (c .before .pre .1) .few in
     omega (arith, value-short t (c .loop .k) (omega arith) (omega arith), c .loop .inv .1)
 
-loop-holds : tie.Need-loop-holds Inv-loop μ-loop
-loop-holds c = search needs
-
 mul-sum : tie.Need-mul-sum Inv-loop μ-loop
 mul-sum c = record { fits = omega (arith, short (c .before)) }
 
@@ -52,12 +49,6 @@ cast-sum c = record { fits = omega (arith, digit (c .before) .high) }
 
 add-sum : tie.Need-add-sum Inv-loop μ-loop
 add-sum c = record { fits = omega (arith, digit (c .before) .high, short (c .before .before)) }
-
-add-k : tie.Need-add-k Inv-loop μ-loop
-add-k c = search needs
-
-loop-less : tie.Need-loop-less Inv-loop μ-loop
-loop-less c = search needs
 
 loop-again : tie.Need-loop-again Inv-loop μ-loop
 loop-again c =
@@ -81,14 +72,14 @@ value-spec =
     (tie.spec
     Inv-loop
     μ-loop
-    loop-holds
+    (λ c. search needs)
     mul-sum
     shared-slice-read-sum
     sub-sum
     cast-sum
     add-sum
-    add-k
-    loop-less
+    (λ c. search needs)
+    (λ c. search needs)
     loop-again
     cast-result
     returns)

@@ -9,13 +9,10 @@ use Rattle.numerals.proofs.write.put_natural.Tie as tie
 put-digits-requires : tie.Need-put-digits-requires
 put-digits-requires c κs = omega (arith, natural-length 20 (c .before .before .args .n) (omega arith) (omega arith))
 
-same-length : tie.Need-same-length
-same-length c = search needs
-
 returns : tie.Need-returns
 returns c =
     let few = natural-length 20 (c .before .before .before .before .before .args .n) (omega arith) (omega arith) in
     search weaken-written
 
 pub put-natural-spec : {M : Type 1} → statement M
-put-natural-spec = tie.close (tie.spec put-digits-requires same-length returns)
+put-natural-spec = tie.close (tie.spec put-digits-requires (λ c. search needs) returns)

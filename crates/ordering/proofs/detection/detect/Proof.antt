@@ -14,18 +14,6 @@ use Rattle.ordering.specs.Detection.{Pair, detected}
 use Rattle.ordering.proofs.detection.detect.Statement.{statement}
 use Rattle.ordering.proofs.detection.detect.Tie as tie
 
-mul-sum : tie.Need-mul-sum
-mul-sum c = search needs
-
-element-copy-out-sum : tie.Need-element-copy-out-sum
-element-copy-out-sum c = search needs
-
-mul-sum-2 : tie.Need-mul-sum-2
-mul-sum-2 c = search needs
-
-element-copy-out-sum-2 : tie.Need-element-copy-out-sum-2
-element-copy-out-sum-2 c = search needs
-
 sum-requires : tie.Need-sum-requires
 sum-requires c κs =
     let start = c .before .before in
@@ -43,18 +31,6 @@ end-is c =
     let k = start .args .first in
     toZ-ofZ w32 _ (record { sfits = c .sum .ok }) ∙ (simp (toZ-ofZ, time-fits (hours .time k), length-fits work k) at (c .sum .ensures))
 
-mul-is-late : tie.Need-mul-is-late
-mul-is-late c = search needs
-
-element-copy-out-is-late : tie.Need-element-copy-out-is-late
-element-copy-out-is-late c = search needs
-
-mul-is-late-2 : tie.Need-mul-is-late-2
-mul-is-late-2 c = search needs
-
-element-copy-out-is-late-2 : tie.Need-element-copy-out-is-late-2
-element-copy-out-is-late-2 c = search needs
-
 is-late-requires : tie.Need-is-late-requires
 is-late-requires c κs =
     let sum = c .before .before in
@@ -62,9 +38,6 @@ is-late-requires c κs =
     let (_, _, hours, work) = start .pre in
     let k = start .args .second in
     simp (toZ-ofZ, length-fits work k) (rw (end-is sum) (end-moderate early hours work (start .args .first)), length-moderate work k)
-
-link-requires : tie.Need-link-requires
-link-requires c κs = search needs
 
 returns : tie.Need-returns
 returns c =
@@ -83,16 +56,16 @@ pub detect-spec : {M : Type 1} → statement M
 detect-spec =
     tie.close
     (tie.spec
-    mul-sum
-    element-copy-out-sum
-    mul-sum-2
-    element-copy-out-sum-2
+    (λ c. search needs)
+    (λ c. search needs)
+    (λ c. search needs)
+    (λ c. search needs)
     sum-requires
-    mul-is-late
-    element-copy-out-is-late
-    mul-is-late-2
-    element-copy-out-is-late-2
+    (λ c. search needs)
+    (λ c. search needs)
+    (λ c. search needs)
+    (λ c. search needs)
     is-late-requires
-    link-requires
+    (λ c κs. search needs)
     returns
     returns-2)

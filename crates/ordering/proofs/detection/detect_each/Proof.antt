@@ -15,47 +15,8 @@ Inv-loop side before₀ after₀ due others valid earliest latest lengths found�
 abbrev μ-loop : tie.MeasureT-loop
 μ-loop side before₀ after₀ due others valid earliest latest lengths found₀ left₀ before after found left = left
 
-no-ends-requires : tie.Need-no-ends-requires Inv-loop μ-loop
-no-ends-requires c κs = search needs
-
 loop-holds : tie.Need-loop-holds Inv-loop μ-loop
 loop-holds c = (to-come (c .before .fits .due .fits) (λ x e. e), sound-none (Meeting _ _ _ _ _) _ _)
-
-lowest-requires : tie.Need-lowest-requires Inv-loop μ-loop
-lowest-requires c κs = search needs
-
-without-lowest-requires : tie.Need-without-lowest-requires Inv-loop μ-loop
-without-lowest-requires c κs = search needs
-
-mul-union : tie.Need-mul-union Inv-loop μ-loop
-mul-union c = search needs
-
-element-copy-out-union : tie.Need-element-copy-out-union Inv-loop μ-loop
-element-copy-out-union c = search needs
-
-mul-union-2 : tie.Need-mul-union-2 Inv-loop μ-loop
-mul-union-2 c = search needs
-
-element-copy-out-union-2 : tie.Need-element-copy-out-union-2 Inv-loop μ-loop
-element-copy-out-union-2 c = search needs
-
-union-requires : tie.Need-union-requires Inv-loop μ-loop
-union-requires c κs = search needs
-
-kept-apart-requires : tie.Need-kept-apart-requires Inv-loop μ-loop
-kept-apart-requires c κs = search needs
-
-without-requires : tie.Need-without-requires Inv-loop μ-loop
-without-requires c κs = search needs
-
-difference-requires : tie.Need-difference-requires Inv-loop μ-loop
-difference-requires c κs = search needs
-
-detect-beside-requires : tie.Need-detect-beside-requires Inv-loop μ-loop
-detect-beside-requires c κs = search needs
-
-all-ends-requires : tie.Need-all-ends-requires Inv-loop μ-loop
-all-ends-requires c κs = search needs
 
 -- from the end of a turn of the loop back to the job that it took
 abbrev walk-of : tie.After-detect-beside Inv-loop μ-loop → tie.After-without-lowest Inv-loop μ-loop
@@ -87,20 +48,20 @@ detect-each-spec =
     (tie.spec
     Inv-loop
     μ-loop
-    no-ends-requires
+    (λ c κs. search needs)
     loop-holds
-    lowest-requires
-    without-lowest-requires
-    mul-union
-    element-copy-out-union
-    mul-union-2
-    element-copy-out-union-2
-    union-requires
-    kept-apart-requires
-    without-requires
-    difference-requires
-    detect-beside-requires
-    all-ends-requires
+    (λ c κs. search needs)
+    (λ c κs. search needs)
+    (λ c. search needs)
+    (λ c. search needs)
+    (λ c. search needs)
+    (λ c. search needs)
+    (λ c κs. search needs)
+    (λ c κs. search needs)
+    (λ c κs. search needs)
+    (λ c κs. search needs)
+    (λ c κs. search needs)
+    (λ c κs. search needs)
     loop-less
     loop-again
     returns)

@@ -26,9 +26,6 @@ Inv-loop side set times lengths last₀ left₀ last left = (left < 2 ^ 64) × M
 abbrev μ-loop : tie.MeasureT-loop
 μ-loop side set times lengths last₀ left₀ last left = left
 
-loop-holds : tie.Need-loop-holds Inv-loop μ-loop
-loop-holds c = search needs
-
 loop-less : tie.Need-loop-less Inv-loop μ-loop
 loop-less c =
     let walk = c .before .before in
@@ -55,7 +52,7 @@ last-end-spec =
     (tie.spec
     Inv-loop
     μ-loop
-    loop-holds
+    (λ c. search needs)
     (λ c κs. search needs)
     (λ c κs. search needs)
     (λ c κs. search needs)

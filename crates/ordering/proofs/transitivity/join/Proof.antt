@@ -17,24 +17,6 @@ Inv-loop before₀ after₀ from through live all gap left₀ before after left 
 abbrev μ-loop : tie.MeasureT-loop
 μ-loop before₀ after₀ from through live all gap left₀ before after left = left
 
-mul-without : tie.Need-mul-without Inv-loop μ-loop
-mul-without c = search needs
-
-element-copy-out-without : tie.Need-element-copy-out-without Inv-loop μ-loop
-element-copy-out-without c = search needs
-
-without-requires : tie.Need-without-requires Inv-loop μ-loop
-without-requires c κs = search needs
-
-mul-difference : tie.Need-mul-difference Inv-loop μ-loop
-mul-difference c = search needs
-
-element-copy-out-difference : tie.Need-element-copy-out-difference Inv-loop μ-loop
-element-copy-out-difference c = search needs
-
-difference-requires : tie.Need-difference-requires Inv-loop μ-loop
-difference-requires c κs = search needs
-
 loop-holds : tie.Need-loop-holds Inv-loop μ-loop
 loop-holds c = (
   to-come (c .intersection .ok) λ x e.
@@ -42,15 +24,6 @@ loop-holds c = (
       rw (all .difference .ensures, all .before .before .without .ensures) at (subset-intersection _ _ .0 x (rw (c .intersection .ensures) at e)),
   sound-none (Forth _ _) _ _,
 )
-
-lowest-requires : tie.Need-lowest-requires Inv-loop μ-loop
-lowest-requires c κs = search needs
-
-without-lowest-requires : tie.Need-without-lowest-requires Inv-loop μ-loop
-without-lowest-requires c κs = search needs
-
-link-requires : tie.Need-link-requires Inv-loop μ-loop
-link-requires c κs = search needs
 
 loop-less : tie.Need-loop-less Inv-loop μ-loop
 loop-less c =
@@ -77,17 +50,17 @@ join-spec =
     (tie.spec
     Inv-loop
     μ-loop
-    mul-without
-    element-copy-out-without
-    without-requires
-    mul-difference
-    element-copy-out-difference
-    difference-requires
+    (λ c. search needs)
+    (λ c. search needs)
+    (λ c κs. search needs)
+    (λ c. search needs)
+    (λ c. search needs)
+    (λ c κs. search needs)
     (λ c κs. search needs)
     loop-holds
-    lowest-requires
-    without-lowest-requires
-    link-requires
+    (λ c κs. search needs)
+    (λ c κs. search needs)
+    (λ c κs. search needs)
     loop-less
     loop-again
     returns)

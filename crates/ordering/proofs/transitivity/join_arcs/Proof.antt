@@ -15,33 +15,12 @@ Inv-loop before₀ after₀ middles live found₀ left₀ before after found lef
 abbrev μ-loop : tie.MeasureT-loop
 μ-loop before₀ after₀ middles live found₀ left₀ before after found left = left
 
-no-ends-requires : tie.Need-no-ends-requires Inv-loop μ-loop
-no-ends-requires c κs = search needs
-
 loop-holds : tie.Need-loop-holds Inv-loop μ-loop
 loop-holds c = (to-come (c .before .fits .middles .fits) (λ x e. e), sound-none (AllValid _) _ _)
-
-lowest-requires : tie.Need-lowest-requires Inv-loop μ-loop
-lowest-requires c κs = search needs
-
-without-lowest-requires : tie.Need-without-lowest-requires Inv-loop μ-loop
-without-lowest-requires c κs = search needs
-
-mul-intersection : tie.Need-mul-intersection Inv-loop μ-loop
-mul-intersection c = search needs
-
-element-copy-out-intersection : tie.Need-element-copy-out-intersection Inv-loop μ-loop
-element-copy-out-intersection c = search needs
-
-intersection-requires : tie.Need-intersection-requires Inv-loop μ-loop
-intersection-requires c κs = search needs
 
 join-through-requires : tie.Need-join-through-requires Inv-loop μ-loop
 join-through-requires c κs =
     (c .before .before .before .before .before .lowest .ensures .width, rw (c .before .before .intersection .ensures) (subset-intersection _ _ .0))
-
-all-ends-requires : tie.Need-all-ends-requires Inv-loop μ-loop
-all-ends-requires c κs = search needs
 
 loop-less : tie.Need-loop-less Inv-loop μ-loop
 loop-less c =
@@ -65,15 +44,15 @@ join-arcs-spec =
     (tie.spec
     Inv-loop
     μ-loop
-    no-ends-requires
+    (λ c κs. search needs)
     loop-holds
-    lowest-requires
-    without-lowest-requires
-    mul-intersection
-    element-copy-out-intersection
-    intersection-requires
+    (λ c κs. search needs)
+    (λ c κs. search needs)
+    (λ c. search needs)
+    (λ c. search needs)
+    (λ c κs. search needs)
     join-through-requires
-    all-ends-requires
+    (λ c κs. search needs)
     loop-less
     loop-again
     returns)

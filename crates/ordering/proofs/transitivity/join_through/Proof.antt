@@ -15,20 +15,8 @@ Inv-loop before₀ after₀ sources through live found₀ left₀ before after f
 abbrev μ-loop : tie.MeasureT-loop
 μ-loop before₀ after₀ sources through live found₀ left₀ before after found left = left
 
-no-ends-requires : tie.Need-no-ends-requires Inv-loop μ-loop
-no-ends-requires c κs = search needs
-
 loop-holds : tie.Need-loop-holds Inv-loop μ-loop
 loop-holds c = (to-come (c .before .fits .sources .fits) (λ x e. e), sound-none (Through _) _ _)
-
-lowest-requires : tie.Need-lowest-requires Inv-loop μ-loop
-lowest-requires c κs = search needs
-
-without-lowest-requires : tie.Need-without-lowest-requires Inv-loop μ-loop
-without-lowest-requires c κs = search needs
-
-join-requires : tie.Need-join-requires Inv-loop μ-loop
-join-requires c κs = search needs
 
 loop-less : tie.Need-loop-less Inv-loop μ-loop
 loop-less c =
@@ -54,11 +42,11 @@ join-through-spec =
     (tie.spec
     Inv-loop
     μ-loop
-    no-ends-requires
+    (λ c κs. search needs)
     loop-holds
-    lowest-requires
-    without-lowest-requires
-    join-requires
+    (λ c κs. search needs)
+    (λ c κs. search needs)
+    (λ c κs. search needs)
     (λ c κs. search needs)
     (λ c κs. search needs)
     loop-less

@@ -5,18 +5,6 @@ use Rattle.energy.specs.Laws.{time-fits, length-fits, length-moderate}
 use Rattle.search.proofs.partners.ends_late.Statement.{statement}
 use Rattle.search.proofs.partners.ends_late.Tie as tie
 
-mul-is-late : tie.Need-mul-is-late
-mul-is-late c = search needs
-
-element-copy-out-is-late : tie.Need-element-copy-out-is-late
-element-copy-out-is-late c = search needs
-
-mul-is-late-2 : tie.Need-mul-is-late-2
-mul-is-late-2 c = search needs
-
-element-copy-out-is-late-2 : tie.Need-element-copy-out-is-late-2
-element-copy-out-is-late-2 c = search needs
-
 is-late-requires : tie.Need-is-late-requires
 is-late-requires c κs =
     let start = c .before .before in
@@ -35,9 +23,9 @@ pub ends-late-spec : {M : Type 1} → statement M
 ends-late-spec =
     tie.close
     (tie.spec
-    mul-is-late
-    element-copy-out-is-late
-    mul-is-late-2
-    element-copy-out-is-late-2
+    (λ c. search needs)
+    (λ c. search needs)
+    (λ c. search needs)
+    (λ c. search needs)
     is-late-requires
     returns)

@@ -7,12 +7,6 @@ use borrow.Author.Needs.{needs}
 use Rattle.search.proofs.partners.excluded.Statement.{statement}
 use Rattle.search.proofs.partners.excluded.Tie as tie
 
-has-requires : tie.Need-has-requires
-has-requires c κs = search needs
-
-intersection-requires : tie.Need-intersection-requires
-intersection-requires c κs = search needs
-
 returns : tie.Need-returns
 returns c = λ k.
     let a = c .before .before .before .args in
@@ -23,4 +17,4 @@ returns-2 : tie.Need-returns-2
 returns-2 c = λ k. rw (sym (c .before .has .ensures) ∙ c .if1 .left, and-false) (bit-zero k)
 
 pub excluded-spec : {M : Type 1} → statement M
-excluded-spec = tie.close (tie.spec has-requires intersection-requires returns returns-2)
+excluded-spec = tie.close (tie.spec (λ c κs. search needs) (λ c κs. search needs) returns returns-2)

@@ -8,15 +8,9 @@ use borrow.Author.Needs.{needs}
 use Rattle.search.proofs.partners.kept_apart.Statement.{statement}
 use Rattle.search.proofs.partners.kept_apart.Tie as tie
 
-has-requires : tie.Need-has-requires
-has-requires c κs = search needs
-
 returns : tie.Need-returns
 returns c =
     record { width = c .before .before .fits .after .fits; member = λ k e. (e, inl (sym (c .before .has .ensures) ∙ c .if1 .taken)) }
-
-intersection-requires : tie.Need-intersection-requires
-intersection-requires c κs = search needs
 
 returns-2 : tie.Need-returns-2
 returns-2 c =
@@ -30,4 +24,4 @@ returns-2 c =
     }
 
 pub kept-apart-spec : {M : Type 1} → statement M
-kept-apart-spec = tie.close (tie.spec has-requires returns intersection-requires returns-2)
+kept-apart-spec = tie.close (tie.spec (λ c κs. search needs) returns (λ c κs. search needs) returns-2)

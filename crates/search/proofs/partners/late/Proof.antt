@@ -22,9 +22,6 @@ abbrev μ-loop : tie.MeasureT-loop
 loop-holds : tie.Need-loop-holds Inv-loop μ-loop
 loop-holds c = record { width = c .fits .set .fits; member = λ k e. e; done = λ k e out. absurd (refuted out e) }
 
-lowest-requires : tie.Need-lowest-requires Inv-loop μ-loop
-lowest-requires c κs = search needs
-
 ends-late-requires : tie.Need-ends-late-requires Inv-loop μ-loop
 ends-late-requires c κs =
     let start = c .before .before .before in
@@ -35,9 +32,6 @@ returns : tie.Need-returns Inv-loop μ-loop
 returns c =
     let at = c .before .before .before .before in
     rw (toZ-ofZ w32 _ (at .before .fits .end)) at (at .loop .inv)
-
-without-lowest-requires : tie.Need-without-lowest-requires Inv-loop μ-loop
-without-lowest-requires c κs = search needs
 
 loop-less : tie.Need-loop-less Inv-loop μ-loop
 loop-less c =
@@ -63,10 +57,10 @@ late-spec =
     Inv-loop
     μ-loop
     loop-holds
-    lowest-requires
+    (λ c κs. search needs)
     ends-late-requires
     returns
-    without-lowest-requires
+    (λ c κs. search needs)
     loop-less
     loop-again
     returns-2)

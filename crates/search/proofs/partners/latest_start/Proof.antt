@@ -28,33 +28,12 @@ abbrev μ-loop : tie.MeasureT-loop
 loop-holds : tie.Need-loop-holds Inv-loop μ-loop
 loop-holds c = (c .fits .set .fits, λ k e out. absurd (refuted out e))
 
-lowest-requires : tie.Need-lowest-requires Inv-loop μ-loop
-lowest-requires c κs = search needs
-
-without-lowest-requires : tie.Need-without-lowest-requires Inv-loop μ-loop
-without-lowest-requires c κs = search needs
-
-mul-gap : tie.Need-mul-gap Inv-loop μ-loop
-mul-gap c = search needs
-
-element-copy-out-gap : tie.Need-element-copy-out-gap Inv-loop μ-loop
-element-copy-out-gap c = search needs
-
-mul-gap-2 : tie.Need-mul-gap-2 Inv-loop μ-loop
-mul-gap-2 c = search needs
-
-element-copy-out-gap-2 : tie.Need-element-copy-out-gap-2 Inv-loop μ-loop
-element-copy-out-gap-2 c = search needs
-
 gap-requires : tie.Need-gap-requires Inv-loop μ-loop
 gap-requires c κs =
     let low = c .before .before .before in
     let (ends, work) = low .before .before .before .pre in
     let k = low .lowest .result in
     simp (toZ-ofZ, time-fits (ends .time k), length-fits work k) (time-moderate (ends .time k), length-moderate work k)
-
-lesser-requires : tie.Need-lesser-requires Inv-loop μ-loop
-lesser-requires c κs = search needs
 
 loop-less : tie.Need-loop-less Inv-loop μ-loop
 loop-less c =
@@ -85,14 +64,14 @@ latest-start-spec =
     Inv-loop
     μ-loop
     loop-holds
-    lowest-requires
-    without-lowest-requires
-    mul-gap
-    element-copy-out-gap
-    mul-gap-2
-    element-copy-out-gap-2
+    (λ c κs. search needs)
+    (λ c κs. search needs)
+    (λ c. search needs)
+    (λ c. search needs)
+    (λ c. search needs)
+    (λ c. search needs)
     gap-requires
-    lesser-requires
+    (λ c κs. search needs)
     loop-less
     loop-again
     returns)

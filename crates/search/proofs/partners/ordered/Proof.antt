@@ -14,21 +14,6 @@ returns c =
     let by = simp (toZ-ofZ, start .fits .end, start .fits .least) at (c .if1 .taken) in
     none-ordered (a .latest .now) (a .lengths .now) (a .i) (a .live) (a .valid) (a .before) (a .after) (a .end) (a .least) (omega (whole, by)) all
 
-kept-apart-requires : tie.Need-kept-apart-requires
-kept-apart-requires c κs = search needs
-
-union-requires : tie.Need-union-requires
-union-requires c κs = search needs
-
-without-requires : tie.Need-without-requires
-without-requires c κs = search needs
-
-difference-requires : tie.Need-difference-requires
-difference-requires c κs = search needs
-
-late-requires : tie.Need-late-requires
-late-requires c κs = search needs
-
 returns-2 : tie.Need-returns-2
 returns-2 c =
     let kept = c .before .before .before .before in
@@ -45,9 +30,9 @@ ordered-spec =
     tie.close
     (tie.spec
     returns
-    kept-apart-requires
-    union-requires
-    without-requires
-    difference-requires
-    late-requires
+    (λ c κs. search needs)
+    (λ c κs. search needs)
+    (λ c κs. search needs)
+    (λ c κs. search needs)
+    (λ c κs. search needs)
     returns-2)

@@ -5,21 +5,6 @@ use borrow.Author.Needs.{needs}
 use Rattle.search.proofs.partners.partners.Statement.{statement}
 use Rattle.search.proofs.partners.partners.Tie as tie
 
-ordered-requires : tie.Need-ordered-requires
-ordered-requires c κs = search needs
-
-excluded-requires : tie.Need-excluded-requires
-excluded-requires c κs = search needs
-
-joined-requires : tie.Need-joined-requires
-joined-requires c κs = search needs
-
-union-requires : tie.Need-union-requires
-union-requires c κs = search needs
-
-union-requires-2 : tie.Need-union-requires-2
-union-requires-2 c κs = search needs
-
 returns : tie.Need-returns
 returns c =
     let late = c .before .before .before .before in
@@ -37,9 +22,9 @@ pub partners-spec : {M : Type 1} → statement M
 partners-spec =
     tie.close
     (tie.spec
-    ordered-requires
-    excluded-requires
-    joined-requires
-    union-requires
-    union-requires-2
+    (λ c κs. search needs)
+    (λ c κs. search needs)
+    (λ c κs. search needs)
+    (λ c κs. search needs)
+    (λ c κs. search needs)
     returns)

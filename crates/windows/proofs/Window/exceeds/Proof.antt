@@ -5,12 +5,6 @@ use Rattle.windows.specs.WindowLaws.{turned-test}
 use Rattle.windows.proofs.Window.exceeds.Statement.{statement}
 use Rattle.windows.proofs.Window.exceeds.Tie as tie
 
-enum-told : tie.Need-enum-told
-enum-told c = search needs
-
-enum-told-2 : tie.Need-enum-told-2
-enum-told-2 c = search needs
-
 returns : tie.Need-returns
 returns c = rw (c .before .before .enum-told .given .1) (search needs)
 
@@ -18,4 +12,4 @@ returns-2 : tie.Need-returns-2
 returns-2 c = rw (c .before .before .enum-told2 .given .1) (search (needs, turned-test))
 
 pub exceeds-spec : {M : Type 1} → statement M
-exceeds-spec = tie.close (tie.spec enum-told enum-told-2 returns returns-2)
+exceeds-spec = tie.close (tie.spec (λ c. search needs) (λ c. search needs) returns returns-2)

@@ -7,9 +7,6 @@ use mir.ValLaws.{toZ-ofZ}
 use Rattle.windows.proofs.Window.holds.Statement.{statement}
 use Rattle.windows.proofs.Window.holds.Tie as tie
 
-sum-requires : tie.Need-sum-requires
-sum-requires c κs = search needs
-
 returns : tie.Need-returns
 returns c =
     let start = c .before .before .before .before in
@@ -20,4 +17,4 @@ returns c =
     simp (toZ-ofZ, fits, latest) (rw (simp (toZ-ofZ, earliest, start .fits .length) at (end .ensures)))
 
 pub holds-spec : {M : Type 1} → statement M
-holds-spec = tie.close (tie.spec sum-requires returns)
+holds-spec = tie.close (tie.spec (λ c κs. search needs) returns)

@@ -6,16 +6,10 @@ use Rattle.reply_numbers.specs.Replies.{planReply}
 use Rattle.exports.proofs.unchecked.by_value.plan.Statement.{statement}
 use Rattle.exports.proofs.unchecked.by_value.plan.Tie as tie
 
-plan-requires : tie.Need-plan-requires
-plan-requires c κs = search needs
-
-plan-reply-requires : tie.Need-plan-reply-requires
-plan-reply-requires c κs = search needs
-
 returns : tie.Need-returns
 returns c =
     let f = c .before .before .fits in
     c .plan-reply .ensures ∙ ap planReply (simp (toZ-ofZ, f .budget) at (c .before .plan .ensures))
 
 pub plan-spec : {M : Type 1} → statement M
-plan-spec = tie.close (tie.spec plan-requires plan-reply-requires returns)
+plan-spec = tie.close (tie.spec (λ c κs. search needs) (λ c κs. search needs) returns)

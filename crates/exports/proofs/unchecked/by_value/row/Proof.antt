@@ -6,16 +6,10 @@ use Rattle.reply_numbers.specs.Replies.{rowReply}
 use Rattle.exports.proofs.unchecked.by_value.row.Statement.{statement}
 use Rattle.exports.proofs.unchecked.by_value.row.Tie as tie
 
-row-requires : tie.Need-row-requires
-row-requires c κs = search needs
-
-row-reply-requires : tie.Need-row-reply-requires
-row-reply-requires c κs = search needs
-
 returns : tie.Need-returns
 returns c =
     let f = c .before .before .fits in
     c .row-reply .ensures ∙ ap rowReply (simp (toZ-ofZ, f .job) at (c .before .row .ensures))
 
 pub row-spec : {M : Type 1} → statement M
-row-spec = tie.close (tie.spec row-requires row-reply-requires returns)
+row-spec = tie.close (tie.spec (λ c κs. search needs) (λ c κs. search needs) returns)
