@@ -109,7 +109,7 @@ pub fn members(set: u64) -> impl Iterator<Item = usize> {
     (0..JOBS).filter(move |job| set >> job & 1 == 1)
 }
 
-// No call replies another number: crates/exports/specs/Table.antt.
+// No call replies another number: crates/reply_numbers/specs/Table.antt.
 fn refusal(number: u64) -> Refusal {
     match number {
         0 => Refusal::Board,
