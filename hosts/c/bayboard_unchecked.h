@@ -6,11 +6,11 @@
  * - what bayboard_empty gave,
  * - one that bayboard_passes said true of, or
  * - what a call, of this header or of bayboard.h, left of such a board, refused or not, if nobody else wrote it since
- * (theorems `empty-passes` and `left-passes` in crates/exports/specs/Passing.antt).
+ * (theorems `empty-passes` and `left-passes` in crates/call_exports/specs/Passing.antt).
  *
  * ON ANOTHER BOARD NOTHING IS PROMISED: the calls don't test it, and may read and write past the board.
  *
- * The equations stand in crates/exports/src/unchecked.rt. */
+ * The equations stand in crates/call_exports/src/unchecked.rt. */
 #ifndef BAYBOARD_UNCHECKED_H
 #define BAYBOARD_UNCHECKED_H
 

@@ -2,5 +2,5 @@
 use libc::STDIN_FILENO;
 
 fn main() {
-    console::run(STDIN_FILENO);
+    program_console::run(STDIN_FILENO);
 }

@@ -109,7 +109,7 @@ pub fn members(set: u64) -> impl Iterator<Item = usize> {
     (0..JOBS).filter(move |job| set >> job & 1 == 1)
 }
 
-// No call replies another number: crates/reply_numbers/specs/Table.antt.
+// No call replies another number: crates/call_reply_numbers/specs/Table.antt.
 fn refusal(number: u64) -> Refusal {
     match number {
         0 => Refusal::Board,
@@ -126,7 +126,7 @@ fn refusal(number: u64) -> Refusal {
     }
 }
 
-// No row shows another mark: `RowShows.mark` in crates/promises/specs/Paper/Views.antt.
+// No row shows another mark: `RowShows.mark` in crates/paper_demands/specs/Paper/Views.antt.
 fn mark(number: u8) -> Mark {
     match number {
         0 => Mark::Undecided,
@@ -136,7 +136,7 @@ fn mark(number: u8) -> Mark {
     }
 }
 
-// No pair has another number: `Arcs` in crates/promises/specs/Paper/Views.antt.
+// No pair has another number: `Arcs` in crates/paper_demands/specs/Paper/Views.antt.
 fn arcs(number: u8) -> Arcs {
     match number {
         0 => Arcs::None,

@@ -7,7 +7,7 @@ use crate::{ffi, Board, Calls, Mark, Pair, Plan, Refusal, Row};
 pub struct Dock {
     // It passes check 0. It starts as the empty board (theorem `empty-passes`) or as one that `bayboard_passes` accepted; only the
     // calls below write it, and what a call leaves of a board that passes, refused or not, passes too (theorem `left-passes`):
-    // crates/exports/specs/Passing.antt.
+    // crates/call_exports/specs/Passing.antt.
     board: Board,
 }
 

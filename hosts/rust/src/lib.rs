@@ -1,7 +1,7 @@
 //! The bay board for Rust: the board as a plain struct that the host keeps, with the calls that the paper names.
 //!
 //! Each call is proved, for every board and all numbers, to answer just what the paper says; the equations stand in
-//! `crates/exports`. A [`Board`] is plain data, and each call on it includes check 0. A [`Dock`] holds a board that has passed
+//! `crates/call_exports`. A [`Board`] is plain data, and each call on it includes check 0. A [`Dock`] holds a board that has passed
 //! check 0 and that only its calls write, so that nothing has to be tested again.
 //!
 //! ```

@@ -1,0 +1,97 @@
+// "Refusals by the gate": the lines of the table, the checks of a job and of a pair, and the planner's 9.
+use paper_board::Refusal;
+use paper_board::range::between;
+ghost use mathlib.Core.Path.{_≡_};
+ghost use mathlib.Core.Bool.{_&&_};
+ghost use mathlib.Core.List.{List, [], _∷_};
+ghost use lib.IntN.{pos};
+ghost use lib.Signed.{_≤ℤ_};
+ghost use Rattle.ground_arithmetic.specs.Linear.{eqZ};
+ghost use Rattle.paper_entries.specs.Paper.Entry as entry;
+ghost use Rattle.paper_entries.specs.Paper.Gate as paper;
+ghost use Rattle.paper_entries.specs.Paper.Gate.{Check, isJob, jobCheck, pairChecks, budgetCheck, gate};
+ghost use Rattle.call_checks.specs.Values.{refusalOf};
+
+// What the checks say of a call: no refusal, or the first that it meets.
+pub enum Gate {
+    Open,
+    Closed(Refusal),
+}
+
+// A line of the table, and what the lines after it say.
+pub fn line(refusal: Refusal, met: bool, rest: Gate) -> Gate
+    ensures { λ r. ⌜ ((cs : List Check) → refusalOf rest ≡ gate cs → refusalOf r ≡ gate (paper.line refusal met ∷ cs)) ⌝ }
+{
+    if met { Gate::Closed(refusal) } else { rest }
+}
+
+// A number that is not negative, as the number of a job.
+pub fn index(number: i32) -> usize
+    requires { ⌜ pos 0 ≤ℤ number ⌝ }
+    ensures { λ r. ⌜ r ≡ entry.number number ⌝ }
+{
+    number as usize
+}
+
+// The number of a mark, as the board holds it.
+pub fn mark_value(mark: i32) -> u8
+    requires { ⌜ (pos 0 ≤ℤ mark) × (mark ≤ℤ pos 2) ⌝ }
+    ensures { λ r. ⌜ r ≡ entry.number mark ⌝ }
+{
+    mark as u8
+}
+
+// The number of tries that a budget allows.
+pub fn budget_value(budget: i32) -> u32
+    requires { ⌜ pos 0 ≤ℤ budget ⌝ }
+    ensures { λ r. ⌜ r ≡ entry.number budget ⌝ }
+{
+    budget as u32
+}
+
+// "numbered from 0"
+pub fn is_job(jobs: usize, number: i32) -> bool
+    ensures { λ r. ⌜ r ≡ isJob jobs number ⌝ }
+{
+    0 <= number && index(number) < jobs
+}
+
+fn are_jobs(jobs: usize, a: i32, b: i32) -> bool
+    ensures { λ r. ⌜ r ≡ isJob jobs a && isJob jobs b ⌝ }
+{
+    is_job(jobs, a) && is_job(jobs, b)
+}
+
+fn is_same(a: i32, b: i32) -> bool
+    ensures { λ r. ⌜ r ≡ eqZ a b ⌝ }
+{
+    a <= b && b <= a
+}
+
+// 2 job
+pub fn job_gate(jobs: usize, job: i32) -> Gate
+    ensures { λ r. ⌜ refusalOf r ≡ gate (jobCheck jobs job ∷ []) ⌝ }
+{
+    line(Refusal::Job, !is_job(jobs, job), Gate::Open)
+}
+
+// 2 job, 3 same
+pub fn pair_gate(jobs: usize, a: i32, b: i32) -> Gate
+    ensures { λ r. ⌜ refusalOf r ≡ gate (pairChecks jobs a b) ⌝ }
+{
+    line(
+        Refusal::Job,
+        !are_jobs(jobs, a, b),
+        line(Refusal::Same, is_same(a, b), Gate::Open),
+    )
+}
+
+// "a budget, 0 to 1000000"
+const BUDGET: i32 = 1000000;
+
+// 9 budget
+pub fn budget_gate(budget: i32) -> Gate
+    ensures { λ r. ⌜ refusalOf r ≡ gate (budgetCheck budget ∷ []) ⌝ }
+{
+    line(Refusal::Budget, !between(0, BUDGET, budget), Gate::Open)
+}

@@ -1,0 +1,63 @@
+-- `call_enter::conclude` meets its contract: shown already, impossible, or closed. Assumes nothing.
+use mathlib.Core.Path.{refl, _∙_}
+use borrow.Author.Needs.{needs}
+use borrow.Author.Tests.{not-true, not-false}
+use Rattle.paper_board.specs.Paper.Limits.{Within}
+use Rattle.paper_closure.specs.Checked.{passes-within}
+use Rattle.call_statements.specs.Stated.{placed}
+use Rattle.call_enter.specs.Concluded.{shown-already, is-impossible, is-possible}
+use Rattle.call_enter.proofs.conclude.Statement.{statement}
+use Rattle.call_enter.proofs.conclude.Tie as tie
+
+-- places that the answers look back to
+abbrev start : tie.After-attempt → tie.Start
+start c = c .before .before .before .before .before .before .before .before .before .before .before .before .before .before .before .before .before .before .before .before .before
+
+within : (c : tie.Start) → Within (c .args .t1)
+within c = passes-within _ (c .pre .0)
+
+is-shown-requires : tie.Need-is-shown-requires
+is-shown-requires c κs =
+    let at = c .before .before .before .before .before in
+    placed (at .args .t1 .jobs) (at .args .stated) (within at .limits .jobs) (at .pre .1)
+
+returns : tie.Need-returns
+returns c =
+    let shown = c .before in
+    let at = shown .before .before .before .before .before .before in
+    shown-already _ _ _ (at .pre .0) (shown .is-shown .ensures (at .args .t1) (within at) (c .if1 .taken))
+
+jobs-with-requires : tie.Need-jobs-with-requires
+jobs-with-requires c κs =
+    let at = c .before .before .before .before .before .before .before in
+    (at .pre .1, within at .limits .jobs)
+
+attempt-requires : tie.Need-attempt-requires
+attempt-requires c κs =
+    let at = c .before .before .before .before .before .before .before .before .before .before .before .before .before .before .before .before .before .before .before .before in
+    (record { board = at .args .t1; jobs = refl; within = within at }, at .pre .1)
+
+returns-2 : tie.Need-returns-2
+returns-2 c =
+    let tried = c .before .before in
+    let at = start tried in
+    c .impossible .ensures ∙ is-impossible _ _ _ (tried .attempt .result) _ (tried .attempt .ensures (at .args .t1) refl (within at)) (not-true (tried .attempt .result) (c .before .if2 .taken))
+
+returns-3 : tie.Need-returns-3
+returns-3 c =
+    let tried = c .before .before in
+    let at = start tried in
+    let counted = tried .before .before .before .before .before .before .before .before .before .before .before .before .before .jobs-with .ensures in
+    rw counted (is-possible _ _ _ (tried .attempt .result) _ (tried .attempt .ensures (at .args .t1) refl (within at)) (not-false (tried .attempt .result) (c .before .if2 .left)))
+
+pub conclude-spec : {M : Type 1} → statement M
+conclude-spec =
+    tie.close
+    (tie.spec
+    is-shown-requires
+    returns
+    jobs-with-requires
+    attempt-requires
+    (λ c κs. search needs)
+    returns-2
+    returns-3)

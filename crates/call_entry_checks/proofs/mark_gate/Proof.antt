@@ -1,0 +1,26 @@
+-- `call_entry_checks::mark_gate` meets its contract, line by line. Assumes nothing.
+use mathlib.Core.List.{[]}
+use borrow.Author.Needs.{needs}
+use mir.ValLaws.{toZ-ofZ}
+use Rattle.paper_entries.specs.Lines.{no-line}
+use Rattle.call_entry_checks.proofs.mark_gate.Statement.{statement}
+use Rattle.call_entry_checks.proofs.mark_gate.Tie as tie
+
+returns : tie.Need-returns
+returns c =
+    let f = c .before .before .before .before .fits in
+    let mark = simp (toZ-ofZ, f .mark) at (c .before .before .before .between .ensures) in
+    let job = simp (toZ-ofZ, f .job) at (c .before .before .is-job .ensures) in
+    rw (← job, ← mark) (c .line2 .ensures _ (c .before .line .ensures [] no-line))
+
+pub mark-gate-spec : {M : Type 1} → statement M
+mark-gate-spec =
+    tie.close
+    (tie.spec
+    (λ c. search needs)
+    (λ c. search needs)
+    (λ c κs. search needs)
+    (λ c κs. search needs)
+    (λ c κs. search needs)
+    (λ c κs. search needs)
+    returns)

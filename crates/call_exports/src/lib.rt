@@ -1,0 +1,103 @@
+// The calls for a host in C or Rust that keeps the board: they alter it where it is kept, or look at it there, and their replies are
+// structs of numbers. Any board may be handed in; check 0 is among their checks.
+use call_dock::Dock;
+use call_reply_numbers::PairReply;
+use call_reply_numbers::PlanReply;
+use call_reply_numbers::Reply;
+use call_reply_numbers::RowReply;
+use call_reply_numbers::entry_reply;
+use paper_board::Board;
+ghost use mathlib.Core.Path.{_≡_};
+ghost use Rattle.paper_board.specs.Paper.Limits.{emptyBoard};
+ghost use Rattle.paper_board.specs.Paper.Parts.{emptyBooks};
+ghost use Rattle.paper_closure.specs.Check as check;
+ghost use Rattle.paper_entries.specs.Paper.Entry as entry;
+ghost use Rattle.paper_entries.specs.Paper.Enter as paper;
+ghost use Rattle.paper_entries.specs.Paper.Looking as looking;
+ghost use Rattle.paper_plans.specs.Paper.Planner as planning;
+ghost use Rattle.call_reply_numbers.specs.Replies.{replied, rowReply, pairReply, planReply};
+
+mod by_value;
+pub mod unchecked;
+
+// A board without jobs whose tally starts at 0.
+#[no_mangle]
+pub extern "C" fn bayboard_empty() -> Board
+    ensures { λ r. ⌜ r ≡ emptyBoard emptyBooks ⌝ }
+{
+    Board::empty()
+}
+
+// Does the board pass check 0? If so, the calls of `unchecked` may be made on it.
+#[no_mangle]
+pub extern "C" fn bayboard_passes(board: &Board) -> bool
+    ensures { λ r. ⌜ r ≡ check.passes (now (board .entry)) ⌝ }
+{
+    let dock = Dock { board: *board };
+    by_value::passes(dock)
+}
+
+// "Addition: length, E, D, mark 0 or 1; gives the job's number."
+#[no_mangle]
+pub extern "C" fn bayboard_addition(
+    board: &mut Board,
+    length: i32,
+    earliest: i32,
+    latest: i32,
+    mark: i32,
+) -> Reply
+    ensures { λ r. ⌜ record { reply = r; board = now (board .exit) } ≡ replied (paper.enter (now (board .entry)) (entry.addition length earliest latest mark)) ⌝ }
+{
+    entry_reply(call_in_place::addition(board, length, earliest, latest, mark))
+}
+
+// "Arc A to B: if both take place, A ends no later than B starts."
+#[no_mangle]
+pub extern "C" fn bayboard_arc(board: &mut Board, from: i32, to: i32) -> Reply
+    ensures { λ r. ⌜ record { reply = r; board = now (board .exit) } ≡ replied (paper.enter (now (board .entry)) (entry.other (entry.arc from to))) ⌝ }
+{
+    entry_reply(call_in_place::arc(board, from, to))
+}
+
+// "Mark a job 1 or 2."
+#[no_mangle]
+pub extern "C" fn bayboard_mark(board: &mut Board, job: i32, mark: i32) -> Reply
+    ensures { λ r. ⌜ record { reply = r; board = now (board .exit) } ≡ replied (paper.enter (now (board .entry)) (entry.other (entry.mark job mark))) ⌝ }
+{
+    entry_reply(call_in_place::mark(board, job, mark))
+}
+
+// "Cut a job with a window E, D: the later E and the earlier D hold."
+#[no_mangle]
+pub extern "C" fn bayboard_cut(board: &mut Board, job: i32, earliest: i32, latest: i32) -> Reply
+    ensures { λ r. ⌜ record { reply = r; board = now (board .exit) } ≡ replied (paper.enter (now (board .entry)) (entry.other (entry.cut job earliest latest))) ⌝ }
+{
+    entry_reply(call_in_place::cut(board, job, earliest, latest))
+}
+
+// "Row of a job: mark, E, D, the set before it and the set after it."
+#[no_mangle]
+pub extern "C" fn bayboard_row(board: &Board, job: i32) -> RowReply
+    ensures { λ r. ⌜ r ≡ rowReply (looking.row (now (board .entry)) job) ⌝ }
+{
+    let dock = Dock { board: *board };
+    by_value::row(dock, job)
+}
+
+// "Pair of A, B: 0 no arc, 1 A to B, 2 B to A, 3 both; and the gap"
+#[no_mangle]
+pub extern "C" fn bayboard_pair(board: &Board, a: i32, b: i32) -> PairReply
+    ensures { λ r. ⌜ r ≡ pairReply (looking.pair (now (board .entry)) a b) ⌝ }
+{
+    let dock = Dock { board: *board };
+    by_value::pair(dock, a, b)
+}
+
+// "It takes the board and a budget, 0 to 1000000." and "alters nothing".
+#[no_mangle]
+pub extern "C" fn bayboard_plan(board: &Board, budget: i32) -> PlanReply
+    ensures { λ r. ⌜ r ≡ planReply (planning.plan (now (board .entry)) budget) ⌝ }
+{
+    let dock = Dock { board: *board };
+    by_value::plan(dock, budget)
+}

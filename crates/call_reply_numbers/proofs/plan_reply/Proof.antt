@@ -1,0 +1,10 @@
+-- `text_replies::plan_reply` meets its contract, field by field. Assumes nothing.
+use borrow.Author.Needs.{needs}
+use Rattle.call_reply_numbers.proofs.plan_reply.Statement.{statement}
+use Rattle.call_reply_numbers.proofs.plan_reply.Tie as tie
+
+returns : tie.Need-returns
+returns c = rw (c .before .ending .ensures, c .plan-number .ensures)
+
+pub plan-reply-spec : {M : Type 1} → statement M
+plan-reply-spec = tie.close (tie.spec (λ c κs. search needs) (λ c κs. search needs) returns)

@@ -1,0 +1,58 @@
+-- What an entry states that its checks let pass: the board that shows it is the paper's (`stated-raw`), and the code can put it there
+-- (`stated-admissible`).
+use mathlib.Core.Path.{_≡_, refl, sym, ap}
+use mathlib.Core.Bool.{Bool, true, false, cond}
+use mathlib.Core.List.{[], _∷_}
+use mathlib.Core.Option.{none}
+use Prim.Native.Nat.{ℕ, _<_}
+use lib.Dec.{eqb}
+use Rattle.paper_board.specs.declared.Board.{Board}
+use Rattle.paper_board.specs.declared.facts.Fact.the-variants as Facts
+use Rattle.paper_board.specs.declared.facts.Side.the-variants as Sides
+use Rattle.paper_board.specs.Paper.Facts.{is-valid, is-invalid}
+use Rattle.paper_board.specs.Paper.Values.{factOf}
+use Rattle.paper_board.specs.Tests.Ranges.{time-moderate}
+use Rattle.paper_entries.specs.Paper.Entry.{Entry, addition, other, arc, mark, cut, number}
+use Rattle.paper_entries.specs.Paper.Gate.{checks, gate}
+use Rattle.paper_entries.specs.Paper.Enter.{raw, updateAll}
+use Rattle.paper_entries.specs.Allowed.{gate-allows}
+use Rattle.paper_entries.specs.Numbers.{pair-numbers, mark-numbers, cut-numbers}
+use Rattle.call_statements.specs.declared.stated.Stated.{Stated}
+use Rattle.call_statements.specs.declared.stated.Stated.the-variants.{Row, One, Two}
+use Rattle.call_statements.specs.Stated.{rawOf, Admissible}
+
+-- the entry meets no check of the table on a board of so many jobs
+pub record Passed (e : Entry) : Type 0 where
+  pub jobs : ℕ
+  pub unmet : gate (checks jobs e) ≡ none
+
+abbrev pub statedBy : Entry → Stated
+statedBy (addition l e d m) = Row l e d (number m)
+statedBy (other (arc a b)) = One (Facts.Arc (number a) (number b))
+statedBy (other (mark j m)) = One (cond (eqb (number m) 1) (Facts.Valid (number j)) (Facts.Invalid (number j)))
+statedBy (other (cut j e d)) = Two (Facts.Bound Sides.Early (number j) e) (Facts.Bound Sides.Late (number j) d)
+
+mark-fact : (j : ℕ) (t : Bool) → factOf (cond t (Facts.Valid j) (Facts.Invalid j)) ≡ cond t (is-valid j) (is-invalid j)
+mark-fact j true = refl
+mark-fact j false = refl
+
+pub stated-raw : (b : Board) (e : Entry) → rawOf b (statedBy e) ≡ raw b e
+unfolding raw
+stated-raw b (addition l e d m) = refl
+stated-raw b (other (arc i k)) = refl
+stated-raw b (other (mark j m)) = ap (λ f. updateAll b (f ∷ [])) (mark-fact (number j) (eqb (number m) 1))
+stated-raw b (other (cut j e d)) = refl
+
+mark-admissible : (n j : ℕ) (t : Bool) → j < n → Admissible n (One (cond t (Facts.Valid j) (Facts.Invalid j)))
+mark-admissible n j true l = (l, tt)
+mark-admissible n j false l = (l, tt)
+
+pub stated-admissible : (n : ℕ) (e : Entry) → gate (checks n e) ≡ none → Admissible n (statedBy e)
+stated-admissible n (addition l e d m) g = gate-allows n (addition l e d m) g
+stated-admissible n (other (arc a b)) g =
+    let h = pair-numbers n a b g in
+    ((h .first .high, h .second .high, h .different), tt)
+stated-admissible n (other (mark j m)) g = mark-admissible n (number j) (eqb (number m) 1) (mark-numbers n j m g .job .high)
+stated-admissible n (other (cut j e d)) g =
+    let h = cut-numbers n j e d g in
+    (h .job .high, time-moderate (h .window .earliest), h .job .high, time-moderate (h .window .latest))

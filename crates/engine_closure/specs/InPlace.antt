@@ -1,0 +1,149 @@
+-- A run of inferences on a board's arrays, until nothing is left to infer or a mark would have to change, leaves the closure.
+use mathlib.Core.Path.{_≡_, refl, sym, _∙_, subst}
+use mathlib.Core.Bool.{Bool, true, false}
+use mathlib.Core.List.{List}
+use mathlib.Core.Option.{Option, none, some}
+use Prim.Native.Nat.{ℕ, _<_}
+use native.Mathlib.Omega.{arith}
+use lib.IntN.{ℤ}
+use Rattle.paper_board.specs.declared.Board.{Board}
+use Rattle.paper_board.specs.Paper.View.{view}
+use Rattle.paper_board.specs.declared.facts.Fact as Facts
+use Rattle.paper_board.specs.Paper.Facts.{Fact, Holds, Known}
+use Rattle.paper_board.specs.Paper.Limits.{jobLimit, Within}
+use Rattle.paper_board.specs.Paper.Values.{factOf}
+use Rattle.paper_board.specs.Inference.Infers.{Infers, Obeys}
+use Rattle.paper_board.specs.Update.Filled.{filled, arrayed, ArraysWithin, possibly, Alters}
+use Rattle.paper_board.specs.Update.Updates.{update}
+use Rattle.paper_board.specs.Update.Reaches.{Reaches, reached-self, reaches-then, infers-known}
+use Rattle.engine_updates.specs.Applicable.{Timely}
+use Rattle.engine_marks.specs.Marked.{marked, unmarked}
+use Rattle.engine_findings.specs.Searched.{Searched}
+use Rattle.engine_search.specs.PairsWalk.{ReadSearched}
+use Rattle.engine_closure.specs.Advances.{Advances}
+use Rattle.paper_closure.specs.Closing.{closure}
+use Rattle.paper_board.specs.Inference.Known.{known-more}
+use Rattle.paper_closure.specs.Measure.{measure, measure-mono}
+use Rattle.engine_search.specs.Reads.{board-read}
+use Rattle.engine_closure.specs.Timely.{timely}
+use Rattle.paper_closure.specs.Stepping.{reaches-closure, reached-closure, reached-next, reached-none}
+
+-- what holds of every board of n jobs within its limits with these arrays
+abbrev OnArrays : (Board → Type 0) → ℕ → List ℤ → List ℤ → List ℤ → List ℕ → List ℕ → List ℕ → Type 0
+OnArrays P n lengths earliest latest marks after before =
+    (b : Board) → b .jobs ≡ n → Within (filled b lengths earliest latest marks after before) → P (filled b lengths earliest latest marks after before)
+
+-- a rule infers the fact, and the board doesn't show it yet
+abbrev pub Unshown : Fact → Board → Type 0
+Unshown f b = Infers (view b) f × (Holds (view b) f → ⊥)
+
+-- the measure of the arrays is that of any such board
+measured : (n : ℕ) (lengths earliest latest : List ℤ) (marks after before : List ℕ) (b : Board) → b .jobs ≡ n
+    → measure (filled b lengths earliest latest marks after before) ≡ measure (arrayed n lengths earliest latest marks after before)
+unfolding measure
+measured n lengths earliest latest marks after before b jobs = rw jobs
+
+module _ (n : ℕ) (lengths earliest latest : List ℤ) (marks after before : List ℕ) where
+  pub advances-none : Advances n lengths earliest latest marks after before true lengths earliest latest marks after before
+  advances-none b jobs within = reached-self (filled b lengths earliest latest marks after before) within
+
+  module _ (lengths' earliest' latest' : List ℤ) (marks' after' before' : List ℕ) (run : Advances n lengths earliest latest marks after before true lengths' earliest' latest' marks' after' before') where
+    -- one run after another
+    pub advances-then : (possible : Bool) (lengths'' earliest'' latest'' : List ℤ) (marks'' after'' before'' : List ℕ)
+        → Advances n lengths' earliest' latest' marks' after' before' possible lengths'' earliest'' latest'' marks'' after'' before'' → Advances n lengths earliest latest marks after before possible lengths'' earliest'' latest'' marks'' after'' before''
+    advances-then possible lengths'' earliest'' latest'' marks'' after'' before'' more b jobs within =
+        let reached = run b jobs within in
+        reaches-then _ _ reached (possibly possible (filled b lengths'' earliest'' latest'' marks'' after'' before'')) (more b jobs (reached .more .within))
+
+    pub advances-within : ArraysWithin n lengths earliest latest marks after before → ArraysWithin n lengths' earliest' latest' marks' after' before'
+    advances-within h = record { board = h .board; jobs = h .jobs; within = run (h .board) (h .jobs) (h .within) .more .within }
+
+    -- nothing is left to infer
+    pub arrays-closed : OnArrays (λ b. Obeys (view b)) n lengths' earliest' latest' marks' after' before' → Alters n closure lengths earliest latest marks after before true lengths' earliest' latest' marks' after' before'
+    arrays-closed obeys b jobs within =
+        let reached = run b jobs within in
+        sym (reached-closure _ _ within reached (obeys b jobs (reached .more .within)))
+
+    -- there is no board
+    pub arrays-none : ((b : Board) → b .jobs ≡ n → Within (filled b lengths' earliest' latest' marks' after' before') → Reaches (filled b lengths' earliest' latest' marks' after' before') none)
+        → (b : Board) → b .jobs ≡ n → Within (filled b lengths earliest latest marks after before) → closure (filled b lengths earliest latest marks after before) ≡ none
+    arrays-none more b jobs within =
+        let reached = run b jobs within in
+        sym (reaches-closure _ within (reaches-then _ _ reached none (more b jobs (reached .more .within))))
+
+    -- one more inference
+    module _ (f : Fact) (new : OnArrays (Unshown f) n lengths' earliest' latest' marks' after' before') (lengths'' earliest'' latest'' : List ℤ) (marks'' after'' before'' : List ℕ) where
+      pub arrays-next : Alters n (λ b. update b f) lengths' earliest' latest' marks' after' before' true lengths'' earliest'' latest'' marks'' after'' before'' → Advances n lengths earliest latest marks after before true lengths'' earliest'' latest'' marks'' after'' before''
+      arrays-next step b jobs within =
+          let reached = run b jobs within in
+          let (infers, unshown) = new b jobs (reached .more .within) in
+          reached-next _ _ within reached f infers unshown _ (step b jobs (reached .more .within)) .0
+
+      pub arrays-less : ArraysWithin n lengths earliest latest marks after before → Alters n (λ b. update b f) lengths' earliest' latest' marks' after' before' true lengths'' earliest'' latest'' marks'' after'' before''
+          → measure (arrayed n lengths'' earliest'' latest'' marks'' after'' before'') < measure (arrayed n lengths earliest latest marks after before)
+      arrays-less h step =
+          let b = h .board in
+          let reached = run b (h .jobs) (h .within) in
+          let (infers, unshown) = new b (h .jobs) (reached .more .within) in
+          let less = reached-next _ _ (h .within) reached f infers unshown _ (step b (h .jobs) (reached .more .within)) .1 in
+          omega (arith, less, measure-mono _ _ (reached .more), measured n lengths'' earliest'' latest'' marks'' after'' before'' b (h .jobs), measured n lengths earliest latest marks after before b (h .jobs))
+
+    -- a mark would have to change
+    pub arrays-contradict : (f : Fact) → OnArrays (Unshown f) n lengths' earliest' latest' marks' after' before' → OnArrays (λ b. update b f ≡ none) n lengths' earliest' latest' marks' after' before'
+        → (b : Board) → b .jobs ≡ n → Within (filled b lengths earliest latest marks after before) → closure (filled b lengths earliest latest marks after before) ≡ none
+    arrays-contradict f new step b jobs within =
+        let reached = run b jobs within in
+        let failed = step b jobs (reached .more .within) in
+        sym (reached-none _ _ within reached f (new b jobs (reached .more .within) .0) failed) ∙ failed
+
+-- Where propagation has led to from the first arrays: to arrays within their limits, with the words of their live and their valid jobs.
+pub record Led (n : ℕ) (lengths₀ earliest₀ latest₀ : List ℤ) (marks₀ after₀ before₀ : List ℕ)
+    (lengths earliest latest : List ℤ) (marks after before : List ℕ) (lives valids : ℕ) : Type 0 where
+  pub run : Advances n lengths₀ earliest₀ latest₀ marks₀ after₀ before₀ true lengths earliest latest marks after before
+  pub within : ArraysWithin n lengths earliest latest marks after before
+  pub is-live : lives ≡ unmarked n marks 2
+  pub is-valid : valids ≡ marked n marks 1
+
+pub led : (n : ℕ) (lengths₀ earliest₀ latest₀ : List ℤ) (marks₀ after₀ before₀ : List ℕ) (lengths earliest latest : List ℤ) (marks after before : List ℕ)
+    (lengths' earliest' latest' : List ℤ) (marks' after' before' : List ℕ) (possible : Bool) (lives valids : ℕ)
+    → Advances n lengths₀ earliest₀ latest₀ marks₀ after₀ before₀ true lengths earliest latest marks after before × ArraysWithin n lengths earliest latest marks after before → possible ≡ true
+    → Advances n lengths earliest latest marks after before possible lengths' earliest' latest' marks' after' before' × (possible ≡ true → (lives ≡ unmarked n marks' 2) × (valids ≡ marked n marks' 1))
+    → Led n lengths₀ earliest₀ latest₀ marks₀ after₀ before₀ lengths' earliest' latest' marks' after' before' lives valids
+led n lengths₀ earliest₀ latest₀ marks₀ after₀ before₀ lengths earliest latest marks after before lengths' earliest' latest' marks' after' before' possible lives valids (run, within) holds (more, sets) =
+    let on : Advances n lengths earliest latest marks after before true lengths' earliest' latest' marks' after' before' = rw holds at more in
+    record {
+      run = advances-then n lengths₀ earliest₀ latest₀ marks₀ after₀ before₀ lengths earliest latest marks after before run true lengths' earliest' latest' marks' after' before' on;
+      within = advances-within n lengths earliest latest marks after before lengths' earliest' latest' marks' after' before' on within;
+      is-live = sets holds .0;
+      is-valid = sets holds .1;
+    }
+
+module _ (n : ℕ) (lengths₀ earliest₀ latest₀ : List ℤ) (marks₀ after₀ before₀ : List ℕ) (lengths earliest latest : List ℤ) (marks after before : List ℕ) (lives valids : ℕ)
+    (h : Led n lengths₀ earliest₀ latest₀ marks₀ after₀ before₀ lengths earliest latest marks after before lives valids) (o : Option Fact) (found : ReadSearched Obeys lives valids earliest latest lengths before after o) where
+  searched : OnArrays (λ b. Searched (view b) (Obeys (view b)) o) n lengths earliest latest marks after before
+  searched b jobs within =
+      let at = filled b lengths earliest latest marks after before in
+      found at (board-read at within (rw (← jobs) at (h .is-live)) (rw (← jobs) at (h .is-valid)))
+
+  -- nothing is found
+  pub led-closed : o ≡ none → Alters n closure lengths₀ earliest₀ latest₀ marks₀ after₀ before₀ true lengths earliest latest marks after before
+  led-closed e = arrays-closed n lengths₀ earliest₀ latest₀ marks₀ after₀ before₀ lengths earliest latest marks after before (h .run) (λ b jobs within. rw e at (searched b jobs within))
+
+  -- a fact is found
+  module _ (f : Fact) (e : o ≡ some f) where
+    pub led-unshown : OnArrays (Unshown f) n lengths earliest latest marks after before
+    led-unshown b jobs within = rw e at (searched b jobs within)
+
+    pub led-known : Known n f
+    led-known =
+        let b = h .within .board in
+        subst (λ m. Known m f) (h .within .jobs) (infers-known (view (filled b lengths earliest latest marks after before)) f (led-unshown b (h .within .jobs) (h .within .within) .0))
+
+    pub led-placed : Known jobLimit f
+    led-placed = known-more (omega (arith, h .within .jobs, h .within .within .limits .jobs)) f led-known
+
+  pub led-timely : (f : Facts.Fact) → o ≡ some (factOf f) → Timely f
+  led-timely f e =
+      let b = h .within .board in
+      let (infers, unshown) = led-unshown (factOf f) e b (h .within .jobs) (h .within .within) in
+      timely (filled b lengths earliest latest marks after before) (h .within .within) f infers unshown

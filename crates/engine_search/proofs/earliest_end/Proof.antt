@@ -1,0 +1,31 @@
+-- `engine_search::earliest_end` meets its contract: the sum does not overflow. Assumes nothing.
+use borrow.Author.Needs.{needs}
+use mathlib.Core.Path.{_∙_, subst⁻¹}
+use mir.Syntax.{w32}
+use mir.ValLaws.{toZ-ofZ}
+use Rattle.ground_arithmetic.specs.Time.{Moderate}
+use Rattle.paper_board.specs.Paper.View.{early}
+use Rattle.paper_board.specs.Tests.Ranges.{time-moderate}
+use Rattle.engine_energy.specs.Laws.{time-fits, length-fits, length-moderate, end-moderate}
+use Rattle.engine_search.proofs.earliest_end.Statement.{statement}
+use Rattle.engine_search.proofs.earliest_end.Tie as tie
+
+sum-requires : tie.Need-sum-requires
+sum-requires c κs =
+    let start = c .before .before in
+    let (_, starts, work) = start .pre in
+    let i = start .args .i in
+    simp (toZ-ofZ, time-fits (starts .time i), length-fits work i) (time-moderate (starts .time i), length-moderate work i)
+
+returns : tie.Need-returns
+returns c =
+    let start = c .before .before .before in
+    let (_, starts, work) = start .pre in
+    let i = start .args .i in
+    let is = toZ-ofZ w32 _ (record { sfits = c .sum .ok }) ∙ simp (toZ-ofZ, time-fits (starts .time i), length-fits work i) at (c .sum .ensures) in
+    record { is = is; moderate = subst⁻¹ Moderate is (end-moderate early starts work i) }
+
+pub earliest-end-spec : {M : Type 1} → statement M
+earliest-end-spec =
+    tie.close
+    (tie.spec (λ c. search needs) (λ c. search needs) (λ c. search needs) (λ c. search needs) sum-requires returns)

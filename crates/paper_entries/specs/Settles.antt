@@ -1,0 +1,38 @@
+-- The closure with an entry is the least board above b that shows the entry and obeys the rules, or there is none.
+use mathlib.Core.Option.{Option}
+use Rattle.paper_board.specs.declared.Board.{Board}
+use Rattle.paper_board.specs.Paper.View.{View, view}
+use Rattle.paper_board.specs.Inference.Infers.{Obeys}
+use Rattle.paper_board.specs.Paper.Entries.{shown}
+use Rattle.paper_board.specs.Paper.Limits.{Within}
+use Rattle.paper_board.specs.Update.Extension.{Extension, Extends}
+use Rattle.paper_board.specs.Update.Compose.{extends-then}
+use Rattle.paper_closure.specs.Closes.{closure-closes}
+use Rattle.paper_closure.specs.Closing.{closure}
+use Rattle.paper_entries.specs.Paper.Entry.{Entry, withEntry}
+use Rattle.paper_entries.specs.Made.{ShowsEntry, entry-up}
+use Rattle.paper_entries.specs.Allowed.{Allowed}
+use Rattle.paper_entries.specs.Paper.Enter.{raw, closureWith}
+use Rattle.paper_entries.specs.Raw.{raw-shown}
+
+-- a view shows the entry, made on b, and obeys the rules
+abbrev pub Settling : Board → Entry → View → Type 0
+Settling b e w = ShowsEntry (b .jobs) e w × Obeys w
+
+abbrev pub Settled : Board → Entry → Board → Type 0
+Settled b e = Extension (withEntry (shown (view b)) e .jobs) (Settling b e) b
+
+abbrev pub SettledTo : Board → Entry → Option Board → Type 0
+SettledTo b e = Extends (withEntry (shown (view b)) e .jobs) (Settling b e) b
+
+pub settles : (b : Board) → Within b → (e : Entry) → Allowed (b .jobs) e → SettledTo b e (closureWith b e)
+unfolding closureWith
+settles b h e ok =
+    extends-then (withEntry (shown (view b)) e .jobs) (ShowsEntry (b .jobs) e) Obeys (Settling b e) b
+    (λ v w. entry-up (b .jobs) e v w)
+    (λ w shows obeys. (shows, obeys))
+    (λ w up obeys both. both)
+    (raw b e)
+    closure
+    (raw-shown b h e ok)
+    λ c x. closure-closes c (x .more .within)

@@ -1,0 +1,99 @@
+-- The theorems on the planner: its answer is how its tries end (`plan-ending`); over the least closed board of entries, these find
+-- one of their schedules (`found-schedule`), or there is none (`none-scheduled`).
+use mathlib.Core.Path.{_≡_, refl, sym, ap, _∙_}
+use mathlib.Core.Logic.{_↔_}
+use mathlib.Core.Bool.{Bool, true, false, cond}
+use mathlib.Core.List.{List}
+use Prim.Native.Nat.{ℕ, _<_, _≤_}
+use native.Mathlib.Omega.{arith}
+use lib.Dec.{leb}
+use lib.IntN.{ℤ, pos}
+use borrow.Author.Tests.{leb-false, le-leb, lt-leb}
+use Rattle.ground_arithmetic.specs.Bools.{clash}
+use Rattle.paper_board.specs.declared.Board.{Board}
+use Rattle.paper_board.specs.Paper.View.{View, view}
+use Rattle.paper_board.specs.Paper.Entries.{Entries, Admissible}
+use Rattle.paper_board.specs.Paper.Limits.{Limited, jobLimit}
+use Rattle.paper_board.specs.Paper.Closed.{Least}
+use Rattle.paper_board.specs.Paper.Schedules.{Placing, Schedule}
+use Rattle.paper_board.specs.Schedule.Boards.{least-keeps}
+use Rattle.paper_board.specs.Schedule.Keeps.{keeps-schedule}
+use Rattle.paper_board.specs.Tests.LimitsDecided.{decides-between}
+use Rattle.paper_board.specs.Tests.Live.{valid-yes}
+use Rattle.paper_closure.specs.Check.{passes}
+use Rattle.paper_closure.specs.Checked.{passes-within}
+use Rattle.paper_entries.specs.Paper.Entry.{number}
+use Rattle.paper_entries.specs.Paper.Gate.{budgetLimit}
+use Rattle.paper_plans.specs.declared.PlanAnswer.the-variants as Answers
+use Rattle.paper_plans.specs.Paper.Lists.{among}
+use Rattle.paper_plans.specs.Paper.Tries.{Outcome, found, none, planOf, tries}
+use Rattle.paper_plans.specs.Paper.Planner.{validJobs, unplanned, withPlan, answer, plan}
+use Rattle.paper_plans.specs.Paper.Answers.{PlanReply, plan-found, plan-none, plan-spent, planReplyOf}
+use Rattle.paper_plans.specs.Paper.Exact.{IsBudget, taken, ending}
+use Rattle.paper_plans.specs.Sound.{tries-sound}
+use Rattle.paper_plans.specs.Complete.{tries-complete}
+use Rattle.paper_plans.specs.PlanLaws.{valid-distinct, valid-among, plan-placing, plan-tries}
+
+-- ---- what a budget makes of an outcome
+
+module _ (v : View) (budget : ℕ) where
+  -- an answer r that isn't spent, where t tries are within the budget
+  spent-beyond : (t : ℕ) (r : PlanReply) → (r ≡ plan-spent budget → ⊥)
+      → (cond (leb t budget) r (plan-spent budget) ≡ plan-spent budget) ↔ (budget < t)
+  spent-beyond t r n = (λ q. go (leb t budget) refl q, λ l. rw (lt-leb t budget l))
+    where
+      go : (b : Bool) → leb t budget ≡ b → cond b r (plan-spent budget) ≡ plan-spent budget → budget < t
+      go true e q = absurd (n q)
+      go false e q = leb-false t budget e
+
+  pub ending-spent : (o : Outcome) → (ending v budget o ≡ plan-spent budget) ↔ (budget < taken o)
+  ending-spent (found t ps) = spent-beyond t (plan-found t (planOf v ps)) λ q. clash (cc)
+  ending-spent (none t) = spent-beyond t (plan-none t) λ q. clash (cc)
+
+  pub ending-found : (t : ℕ) (ps : List ℕ) → t ≤ budget → ending v budget (found t ps) ≡ plan-found t (planOf v ps)
+  ending-found t ps l = rw (le-leb t budget l)
+
+  pub ending-none : (t : ℕ) → t ≤ budget → ending v budget (none t) ≡ plan-none t
+  ending-none t l = rw (le-leb t budget l)
+
+-- ---- the tries on a board
+
+-- the jobs of a list that the tries find are jobs of the board
+module _ (v : View) (limits : Limited v) (T : ℕ) (ps : List ℕ) (e : tries v (validJobs v) ≡ found T ps) where
+  small : (k : ℕ) → among ps k ≡ true → k < jobLimit
+  small k a =
+      let (keeps, all) = tries-sound v (validJobs v) (valid-among v) limits (valid-distinct v) T ps e in
+      omega (arith, valid-yes v k (sym (all k) ∙ a), limits .jobs)
+
+-- the plan handed back, a word and a list of starts, is the list of placed jobs
+answer-ending : (v : View) → Limited v → (budget : ℕ) (o : Outcome) → tries v (validJobs v) ≡ o
+    → planReplyOf (answer v budget o) ≡ ending v budget o
+answer-ending v limits budget (found t ps) e = go (leb t budget)
+  where
+    go : (b : Bool) → planReplyOf (cond b (withPlan v (Answers.Found t) ps) (unplanned (Answers.Spent budget))) ≡ cond b (plan-found t (planOf v ps)) (plan-spent budget)
+    go true = ap (plan-found t) (sym (plan-placing v (Answers.Found t) ps (small v limits t ps e)))
+    go false = refl
+answer-ending v limits budget (none t) e = go (leb t budget)
+  where
+    go : (b : Bool) → planReplyOf (cond b (unplanned (Answers.None t)) (unplanned (Answers.Spent budget))) ≡ cond b (plan-none t) (plan-spent budget)
+    go true = refl
+    go false = refl
+
+pub plan-ending : (b : Board) → passes b ≡ true → (z : ℤ) → IsBudget z
+    → planReplyOf (plan b z) ≡ ending (view b) (number z) (tries (view b) (validJobs (view b)))
+plan-ending b p z h =
+    ap planReplyOf (plan-tries b z p (decides-between (pos 0) budgetLimit z .show h))
+    ∙ answer-ending (view b) (passes-within b p .limits) (number z) (tries (view b) (validJobs (view b))) refl
+
+module _ (es : Entries) (b : Board) (least : Least es b) where
+  limits : Limited (view b)
+  limits = least .closed .within .limits
+
+  pub found-schedule : (T : ℕ) (ps : List ℕ) → tries (view b) (validJobs (view b)) ≡ found T ps → Schedule es (planOf (view b) ps)
+  found-schedule T ps e =
+      let (keeps, all) = tries-sound (view b) (validJobs (view b)) (valid-among (view b)) limits (valid-distinct (view b)) T ps e in
+      keeps-schedule es (view b) (least .closed .shows) (planOf (view b) ps) keeps
+
+  pub none-scheduled : Admissible es → (T : ℕ) → tries (view b) (validJobs (view b)) ≡ none T → (p : Placing) → Schedule es p → ⊥
+  none-scheduled ok T e p s =
+      tries-complete (view b) (validJobs (view b)) (valid-among (view b)) limits p (least-keeps es b ok least p s) (valid-distinct (view b)) T e

@@ -1,8 +1,0 @@
--- The three demands hold: `demands`.
-use Rattle.promises.specs.Demands.{Demands}
-use Rattle.promises.specs.Demand1Holds.{demand1}
-use Rattle.promises.specs.Demand2Holds.{demand2-handed, demand2-after}
-use Rattle.promises.specs.Demand3Holds.{handed-ends, demand3}
-
-pub demands : Demands
-demands = record { first = demand1; second = demand2-handed; secondAfter = demand2-after; third = demand3; handed = handed-ends }

@@ -1,7 +1,0 @@
-// What a search finds: a fact that the rules infer and that the board doesn't show yet, or nothing.
-use board::facts::Fact;
-
-pub enum Found {
-    Nothing,
-    Inferred(Fact),
-}
