@@ -5,7 +5,7 @@ use mathlib.Core.Bool.{Bool, true, false}
 use mathlib.Core.List.{List}
 use mathlib.Core.Logic.{_≢_, _⊎_, inl, inr}
 use mathlib.Core.Option.{none, some}
-use Prim.Native.Nat.{ℕ, _^_, _≤_, _<_}
+use Prim.Native.Nat.{ℕ, _^_, _<_}
 use native.Mathlib.Omega.{arith}
 use lib.IntN.{ℤ, pos, negℤ, _+ℤ_}
 use lib.Signed.{leZ, ltZ, _≤ℤ_}
@@ -13,7 +13,7 @@ use mir.Syntax.{w32}
 use mir.Val.{SFits, toZ, ofZ}
 use mir.ValLaws.{toZ-ofZ}
 use Rattle.ground_sets.specs.Bit.{bit, without}
-use Rattle.ground_sets.specs.BitLaws.{bit-zero, without-lt, part-at-most}
+use Rattle.ground_sets.specs.BitLaws.{bit-zero, without-lt, part-below}
 use Rattle.ground_sets.specs.Walk.{without-other, without-inside}
 use Rattle.ground_arithmetic.specs.Bools.{refuted, by-test}
 use Rattle.ground_arithmetic.specs.Linear.{whole, plus, minus}
@@ -220,11 +220,8 @@ module _ {s : Side} {times lengths : List ℤ} {set left : ℕ} {best low all to
 
     -- the job with the least bound is struck
     pub round-falls : Beats s times lengths top left kept → kept < left
-    round-falls beats = strict (part-at-most kept left (strikes-inside (p .fits) strikes .1)) λ same.
+    round-falls beats =
         let least = c .least some-job in
         let x = least .first in
-        let over = beats .over x (ap (λ w. bit w x) same ∙ least .member) in
-        omega (whole, over, is, least .is, c .loaded, greater-right best (low +ℤ all), plus low all, plus (boundAt s times x) (load lengths left))
-      where
-        strict : kept ≤ left → kept ≢ left → kept < left
-        strict l ne = omega (arith, ne)
+        part-below kept left x (strikes-inside (p .fits) strikes .1) (least .member) λ e.
+        omega (whole, beats .over x e, is, least .is, c .loaded, greater-right best (low +ℤ all), plus low all, plus (boundAt s times x) (load lengths left))

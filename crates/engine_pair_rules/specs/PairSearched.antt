@@ -17,8 +17,7 @@ use Rattle.paper_board.specs.Paper.Limits.{jobLimit}
 use Rattle.paper_board.specs.Paper.View.{View, Live, Valid, Arc}
 use Rattle.paper_board.specs.Paper.Facts.{Fact, is-arc, is-invalid}
 use Rattle.paper_board.specs.Paper.Rules.{E, D, L}
-use Rattle.paper_board.specs.Paper.Tests.{valid}
-use Rattle.paper_board.specs.Tests.Decides.{Decides, retested, passed, failed, _and_, negated, holds, eq, valid-is, earlier}
+use Rattle.paper_board.specs.Tests.Decides.{Decides, retested, passed, failed, _and_, negated, eq, earlier}
 use Rattle.paper_board.specs.Inference.Infers.{r1, r2, r3}
 use Rattle.engine_findings.specs.Searched.{Searched, PairObeys}
 
@@ -33,10 +32,10 @@ pub record PairRead (v : View) (i k valids after before onward : ℕ) (late : Bo
   pub second : Live v k
   pub differ : i ≢ k
   pub joins : (x y : ℕ) → Arc v x y → Live v x × Live v y × (x ≢ y)
-  pub is-valid : (x : ℕ) → bit valids x ≡ valid v x
-  pub is-after : (x : ℕ) → bit after x ≡ v .arc i x
-  pub is-before : (x : ℕ) → bit before x ≡ v .arc x i
-  pub is-onward : (x : ℕ) → bit onward x ≡ v .arc k x
+  pub valid-bit : (x : ℕ) → Decides (bit valids x) (Valid v x)
+  pub after-bit : (x : ℕ) → Decides (bit after x) (Arc v i x)
+  pub before-bit : (x : ℕ) → Decides (bit before x) (Arc v x i)
+  pub onward-bit : (x : ℕ) → Decides (bit onward x) (Arc v k x)
   pub is-late : late ≡ ltZ (D v k) (E v i +ℤ L v i +ℤ L v k)
 
 -- what the search at the pair has to say, whatever the view that these are read from
@@ -52,28 +51,16 @@ PairTested i k valids after before onward late t =
 -- the tests of the code decide the premises of the rules
 module _ (v : View) (i k valids after before onward : ℕ) (late : Bool)
     (h : PairRead v i k valids after before onward late) where
-  valid-bit : (x : ℕ) → Decides (bit valids x) (Valid v x)
-  valid-bit x = retested (h .is-valid x) (valid-is v x)
-
-  after-bit : (x : ℕ) → Decides (bit after x) (Arc v i x)
-  after-bit x = retested (h .is-after x) (holds (v .arc i x))
-
-  before-bit : (x : ℕ) → Decides (bit before x) (Arc v x i)
-  before-bit x = retested (h .is-before x) (holds (v .arc x i))
-
-  onward-bit : (x : ℕ) → Decides (bit onward x) (Arc v k x)
-  onward-bit x = retested (h .is-onward x) (holds (v .arc k x))
-
   excluded : Decides (bit after k && bit before k && bit valids i) ((Arc v i k × Arc v k i) × Valid v i)
-  excluded = after-bit k and before-bit k and valid-bit i
+  excluded = h .after-bit k and h .before-bit k and h .valid-bit i
 
   ordered : Decides (late && not (bit before k)) ((D v k <ℤ (E v i +ℤ L v i +ℤ L v k)) × (Arc v k i → ⊥))
-  ordered = retested (h .is-late) (earlier (D v k) (E v i +ℤ L v i +ℤ L v k)) and negated (before-bit k)
+  ordered = retested (h .is-late) (earlier (D v k) (E v i +ℤ L v i +ℤ L v k)) and negated (h .before-bit k)
 
   joined : (w : ℕ) → Unjoined i k valids after onward w → (c : ℕ)
       → Decides (bit w c) ((Valid v k × Arc v i k) × ((Arc v k c × (i ≢ c)) × (Arc v i c → ⊥)))
   joined w u c = retested (u .members c)
-      (valid-bit k and after-bit k and (onward-bit c and negated (eq i c) and negated (after-bit c)))
+      (h .valid-bit k and h .after-bit k and (h .onward-bit c and negated (eq i c) and negated (h .after-bit c)))
 
 module _ (i k valids after before onward : ℕ) (late : Bool) where
   abbrev Says : Option Fact → Type 0

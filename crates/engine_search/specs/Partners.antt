@@ -3,14 +3,14 @@ use mathlib.Core.Path.{_≡_, refl, sym, ap, _∙_, subst}
 use mathlib.Core.Logic.{_≢_, _⊎_, inl, inr, ⊎-elim}
 use mathlib.Core.Bool.{Bool, true, false, _||_, or-true}
 use mathlib.Core.List.{List}
-use Prim.Native.Nat.{ℕ, _≤_, _<_, _^_}
+use Prim.Native.Nat.{ℕ, _<_, _^_}
 use native.Mathlib.Decide.{ℕ-discrete}
 use native.Mathlib.Omega.{arith}
 use lib.IntN.{ℤ, pos, negℤ, _+ℤ_, _-ℤ_}
 use lib.ListN.{getD}
 use lib.Signed.{_≤ℤ_}
 use Rattle.ground_sets.specs.Bit.{bit, union, intersection, difference, without, Lowest}
-use Rattle.ground_sets.specs.BitLaws.{bit-zero, bit-union, bit-intersection, bit-difference, bit-without, without-lt, difference-lt, subset-yes, part-at-most}
+use Rattle.ground_sets.specs.BitLaws.{bit-zero, bit-union, bit-intersection, bit-difference, bit-without, without-lt, difference-lt, subset-yes, part-below}
 use Rattle.ground_sets.specs.Walk.{Left, taken-out}
 use Rattle.ground_arithmetic.specs.Bools.{refuted, is-true}
 use Rattle.ground_arithmetic.specs.Linear.{whole, plus, minus}
@@ -175,10 +175,7 @@ module _ (after : List ℕ) (set left all k : ℕ) (p : Looked after set left al
       }
 
   pub look-falls : rest < left
-  look-falls = strict (part-at-most rest left λ x e. still x .yes e .0 .0) λ same. still k .yes (ap (λ w. bit w k) same ∙ l .member) .0 .1 refl
-    where
-      strict : rest ≤ left → rest ≢ left → rest < left
-      strict le ne = omega (arith, ne)
+  look-falls = part-below rest left k (λ x e. still x .yes e .0 .0) (l .member) (λ e. still k .yes e .0 .1 refl)
 
 -- there are arcs from i to all jobs after m
 abbrev pub Joins : List ℕ → ℕ → ℕ → ℕ → Type 0

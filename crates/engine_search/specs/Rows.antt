@@ -68,10 +68,10 @@ module _ {b : Board} {i lives valids before after : ℕ} {end : ℤ} {latest len
         second = l;
         differ = ne;
         joins = h .within .limits .arcs;
-        is-valid = h .is-valid;
-        is-after = λ x. ap (λ w. bit w x) (h .is-after);
-        is-before = λ x. ap (λ w. bit w x) (h .is-before) ∙ h .within .twice x i;
-        is-onward = λ x. ap (λ ws. bit (getD ws k 0) x) (h .is-afters);
+        valid-bit = valid-bit;
+        after-bit = after-bit;
+        before-bit = before-bit;
+        onward-bit = onward-bit k;
         is-late = is-late ∙ rw (h .is-latest, h .is-lengths, h .is-end);
       }
 

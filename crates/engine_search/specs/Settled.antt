@@ -1,8 +1,8 @@
 -- The pairs settled: what is known of a pair that is left out, and that the rules are obeyed once this is known of each pair, and R4
 -- to R6 of each job. R1 needs no test through a job that lies after another one tested, nor R3 one of a pair that R4 to R6 keep apart.
-use mathlib.Core.Path.{_≡_, refl, sym, ap, _∙_, subst, subst⁻¹}
+use mathlib.Core.Path.{_≡_, refl, sym, subst, subst⁻¹}
 use mathlib.Core.Logic.{_≢_, _⊎_, inl, inr, ⊎-elim}
-use Prim.Native.Nat.{ℕ, zero, suc, _≤_, _<_}
+use Prim.Native.Nat.{ℕ, zero, suc, _<_}
 use native.Mathlib.Decide.{ℕ-discrete}
 use native.Mathlib.Omega.{arith}
 use lib.Dec.{eqb}
@@ -10,8 +10,7 @@ use lib.IntN.{negℤ, _+ℤ_}
 use lib.ListN.{getD}
 use lib.Signed.{_≤ℤ_, _<ℤ_}
 use borrow.Author.Tests.{eq-eqb, eqb-true}
-use Rattle.ground_sets.specs.Bit.{bit}
-use Rattle.ground_sets.specs.BitLaws.{part-at-most}
+use Rattle.ground_sets.specs.BitLaws.{part-below}
 use Rattle.ground_sets.specs.Walk.{Left}
 use Rattle.ground_arithmetic.specs.Linear.{whole, plus, minus}
 use Rattle.paper_board.specs.declared.Board.{Board}
@@ -52,16 +51,13 @@ module _ (b : Board) (h : Within b) (pairs : PairsSettled (view b)) where
   abbrev v : View
   v = view b
 
-  strict : {x y : ℕ} → x ≤ y → x ≢ y → x < y
-  strict l ne = omega (arith, ne)
-
   -- fewer jobs lie after m than after i, of which m is one
   fewer : (i m : ℕ) → Valid v m → Arc v i m → Joins v i m → getD (b .after) m 0 < getD (b .after) i 0
   fewer i m vm forth joins =
       let (li, lm, ne) = h .limits .arcs i m forth in
-      strict
-      (part-at-most _ _ λ x e. joins x e λ same. pairs m lm i (li, λ s. ne (sym s)) .exclude vm (subst⁻¹ (λ y. Arc v m y) same e) forth)
-      λ same. h .limits .arcs m m (ap (λ w. bit w m) same ∙ forth) .2 refl
+      part-below _ _ m
+      (λ x e. joins x e λ same. pairs m lm i (li, λ s. ne (sym s)) .exclude vm (subst⁻¹ (λ y. Arc v m y) same e) forth)
+      forth (λ e. h .limits .arcs m m e .2 refl)
 
   joins-below : (n i k : ℕ) → getD (b .after) i 0 < n → Valid v k → Arc v i k → Joins v i k
   joins-below zero i k l vk forth = absurd (omega arith)

@@ -1,5 +1,5 @@
 -- What the outcome of a Boolean test tells, and what a clash of constructors does.
-use mathlib.Core.Path.{_≡_, refl, sym}
+use mathlib.Core.Path.{_≡_, refl, sym, _∙_}
 use mathlib.Core.Bool.{Bool, true, false, cond, _&&_}
 use Prim.Native.Nat.{ℕ}
 use native.Mathlib.Omega.{arith}
@@ -26,6 +26,13 @@ and-parts false b e = clash (cc)
 
 pub and-both : (a b : Bool) → a ≡ true → b ≡ true → (a && b) ≡ true
 and-both a b p q = rw (p, q)
+
+-- `p && q` in the code asks q only where p holds: the answer is q's where it is asked, and p's where it is not
+pub and-asked : {p q a b : Bool} → p ≡ a → p ≡ true → q ≡ b → q ≡ (a && b)
+and-asked first holds second = rw (sym first ∙ holds) second
+
+pub and-unasked : {p a : Bool} → p ≡ a → p ≡ false → (b : Bool) → p ≡ (a && b)
+and-unasked first fails b = rw (sym first ∙ fails) fails
 
 -- two tests that imply each other are the same
 pub same-tests : (a b : Bool) → (a ≡ true → b ≡ true) → (b ≡ true → a ≡ true) → a ≡ b

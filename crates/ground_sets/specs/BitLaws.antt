@@ -150,17 +150,10 @@ bit-difference n a b k ha hb = bit-intersection a (2 ^ n - 1 - b) k ∙ kept (de
     kept (yes h) = ap (λ (t : Bool). bit a k && t) (bit-complement n b k hb h)
     kept (no h) = rw (bit-high n a k ha (omega arith))
 
--- a set without the members of another is empty where it lies within the other, and only there
-module _ (n a b : ℕ) (ha : a < 2 ^ n) (hb : b < 2 ^ n) where
-  pub subset-show : ((k : ℕ) → bit a k ≡ true → bit b k ≡ true) → difference n a b ≡ 0
-  subset-show h = bit-ext (difference n a b) 0 λ k. bit-difference n a b k ha hb ∙ none (bit a k) (bit b k) (h k) ∙ sym (bit-zero k)
-    where
-      none : (s t : Bool) → (s ≡ true → t ≡ true) → (s && not t) ≡ false
-      none true t i = rw (i refl)
-      none false t i = refl
-
-  pub subset-yes : difference n a b ≡ 0 → (k : ℕ) → bit a k ≡ true → bit b k ≡ true
-  subset-yes e k h = not-false (bit b k) (rw h at (sym (bit-difference n a b k ha hb) ∙ ap (λ (x : ℕ). bit x k) e ∙ bit-zero k))
+-- a set without the members of another is empty only where it lies within the other
+pub subset-yes : (n a b : ℕ) → a < 2 ^ n → b < 2 ^ n → difference n a b ≡ 0 → (k : ℕ) → bit a k ≡ true → bit b k ≡ true
+subset-yes n a b ha hb e k h =
+    not-false (bit b k) (rw h at (sym (bit-difference n a b k ha hb) ∙ ap (λ (x : ℕ). bit x k) e ∙ bit-zero k))
 
 -- a union is empty where both sets are, and only there; and words that differ in no bit are the same
 pub union-none : (a b : ℕ) → union a b ≡ 0 → (a ≡ 0) × (b ≡ 0)
@@ -235,7 +228,7 @@ module _ (n : ℕ) (t : ℕ → Bool) where
 -- ---- parts of a set
 
 -- a part of a set is no greater a word
-pub part-at-most : (a b : ℕ) → ((k : ℕ) → bit a k ≡ true → bit b k ≡ true) → a ≤ b
+part-at-most : (a b : ℕ) → ((k : ℕ) → bit a k ≡ true → bit b k ≡ true) → a ≤ b
 unfolding intersection
 part-at-most a b inside =
     let same : a ≡ intersection a b = bit-ext a (intersection a b) λ k. sym (bit-intersection a b k ∙ both (bit a k) (bit b k) (inside k)) in
@@ -244,6 +237,12 @@ part-at-most a b inside =
     both : (s t : Bool) → (s ≡ true → t ≡ true) → (s && t) ≡ s
     both true t h = h refl
     both false t h = refl
+
+-- and a smaller one where a member is missing
+pub part-below : (a b j : ℕ) → ((k : ℕ) → bit a k ≡ true → bit b k ≡ true) → bit b j ≡ true → (bit a j ≡ true → ⊥) → a < b
+part-below a b j inside member missing =
+    let differ : a ≢ b = λ same. missing (ap (λ (x : ℕ). bit x j) same ∙ member) in
+    omega (arith, part-at-most a b inside, differ)
 
 -- ---- the code's shifts and masks
 

@@ -1,19 +1,18 @@
 -- Walking a set by its least member: that the code's count of trailing zeros is the least member, that one less than the word has it no more,
 -- and what is left once a member is taken out. A walk goes on until nothing is left. From the other end: that the count of leading zeros
 -- tells the greatest member. Assumes nothing.
-use Prim.Native.Nat.{ℕ, zero, suc, _-_, _/_, _%_, _^_, _≤_, _<_}
-use mathlib.Core.Bool.{Bool, true, false, _&&_, and-true, and-false}
+use Prim.Native.Nat.{ℕ, zero, suc, _-_, _/_, _%_, _^_, _<_}
+use mathlib.Core.Bool.{Bool, true, false, not, _&&_, and-true, and-false, and-self, true≢false}
 use mathlib.Core.Path.{_≡_, refl, sym, ap, _∙_, subst⁻¹}
 use mathlib.Core.Logic.{_≢_}
 use native.Mathlib.Decide.{ℕ-discrete}
 use native.Mathlib.Nat.{pow-suc}
 use native.Mathlib.Omega.{arith}
-use lib.Bits.{and-le-l}
 use lib.Count.{leadingZeros, leading-top, trailingZeros, under}
-use lib.Dec.{eqb}
+use lib.Dec.{eqb, eqb·zero-suc, eqb·suc-suc}
 use borrow.Author.Tests.{eq-eqb, ne-eqb}
-use Rattle.ground_sets.specs.Bit.{bit, intersection, difference, without, Lowest, Highest, Next}
-use Rattle.ground_sets.specs.BitLaws.{bit-low, bit-odd, bit-even, bit-half, bit-high, bit-top, bit-zero, bit-ext, bit-intersection, bit-without, without-lt}
+use Rattle.ground_sets.specs.Bit.{bit, intersection, without, Lowest, Highest, Next}
+use Rattle.ground_sets.specs.BitLaws.{bit-low, bit-odd, bit-even, bit-half, bit-high, bit-top, bit-zero, bit-ext, bit-intersection, bit-without, without-lt, part-below}
 
 pub trailing-lowest : (n w : ℕ) → w ≢ 0 → w < 2 ^ n → Lowest n w (trailingZeros n w)
 unfolding trailingZeros
@@ -56,28 +55,20 @@ unfolding Next
 next-member n false w k at = at .member
 next-member n true w k at = at .member
 
--- One less than a word with a least member k: k is out, and the members above it stay.
-less-self : (k w : ℕ) → bit w k ≡ true → ((j : ℕ) → j < k → bit w j ≡ false) → bit (w - 1) k ≡ false
-less-self zero w e least =
+-- of a word's members, one less than the word has all but the least
+less-bit : (k w : ℕ) → bit w k ≡ true → ((j : ℕ) → j < k → bit w j ≡ false) → (j : ℕ) → (bit w j && bit (w - 1) j) ≡ (bit w j && not (eqb k j))
+less-bit zero w e least zero =
     let even : (w - 1) % 2 ≡ 0 = omega (arith, bit-odd w e) in
-    bit-low (w - 1) ∙ ap (λ (x : ℕ). eqb x 1) even
-less-self (suc k) w e least =
-    let half : (w - 1) / 2 ≡ w / 2 - 1 = omega (arith, bit-even w (least 0 (omega arith))) in
-    sym (bit-half (w - 1) k) ∙ ap (λ (x : ℕ). bit x k) half ∙ less-self k (w / 2) (bit-half w k ∙ e) (λ j b. bit-half w j ∙ least (suc j) (omega (arith, b)))
-
-less-other : (k w : ℕ) → bit w k ≡ true → ((j : ℕ) → j < k → bit w j ≡ false) → (j : ℕ) → j ≢ k → bit w j ≡ true → bit (w - 1) j ≡ true
-less-other zero w e least zero ne i = absurd (ne refl)
-less-other zero w e least (suc j) ne i =
+    rw (bit-low (w - 1), even)
+less-bit zero w e least (suc j) =
     let half : (w - 1) / 2 ≡ w / 2 = omega (arith, bit-odd w e) in
-    sym (bit-half (w - 1) j) ∙ ap (λ (x : ℕ). bit x j) half ∙ bit-half w j ∙ i
-less-other (suc k) w e least zero ne i = absurd (omega (arith, bit-even w (least 0 (omega arith)), bit-odd w i))
-less-other (suc k) w e least (suc j) ne i =
+    let same : bit (w - 1) (suc j) ≡ bit w (suc j) = sym (bit-half (w - 1) j) ∙ ap (λ (x : ℕ). bit x j) half ∙ bit-half w j in
+    rw (same, eqb·zero-suc j, and-true (bit w (suc j))) (and-self (bit w (suc j)))
+less-bit (suc k) w e least zero = rw (least 0 (omega arith))
+less-bit (suc k) w e least (suc j) =
     let half : (w - 1) / 2 ≡ w / 2 - 1 = omega (arith, bit-even w (least 0 (omega arith))) in
-    sym (bit-half (w - 1) j) ∙ ap (λ (x : ℕ). bit x j) half
-    ∙ less-other k (w / 2) (bit-half w k ∙ e) (λ x b. bit-half w x ∙ least (suc x) (omega (arith, b))) j (λ s. ne (ap suc s)) (bit-half w j ∙ i)
-
-strict : {a b : ℕ} → a ≤ b → a ≢ b → a < b
-strict l ne = omega (arith, ne)
+    rw (eqb·suc-suc k j, ← bit-half w j, ← bit-half (w - 1) j, half)
+    (less-bit k (w / 2) (bit-half w k ∙ e) (λ x b. bit-half w x ∙ least (suc x) (omega (arith, b))) j)
 
 module _ (n w k : ℕ) (fits : w < 2 ^ n) (width : k < n) where
   -- the member taken out is out
@@ -93,19 +84,12 @@ module _ (n w k : ℕ) (fits : w < 2 ^ n) (width : k < n) where
   without-inside j e = go (ℕ-discrete j k)
     where
       go : Dec (j ≡ k) → bit w j ≡ true
-      go (yes s) =
-          let out : bit (without n w k) j ≡ false = ap (bit (without n w k)) s ∙ without-self in
-          let clash : _≡_ {A = ℕ} 0 1 = cc in
-          absurd (omega arith)
+      go (yes s) = absurd (true≢false (sym e ∙ ap (bit (without n w k)) s ∙ without-self))
       go (no ne) = sym (without-other j ne) ∙ e
 
   -- so the word gets smaller, and a walk ends
   pub without-falls : bit w k ≡ true → without n w k < w
-  unfolding without difference
-  without-falls e = strict (and-le-l w _) λ same.
-      let out : bit w k ≡ false = sym (ap (λ (x : ℕ). bit x k) same) ∙ without-self in
-      let clash : _≡_ {A = ℕ} 0 1 = cc in
-      omega arith
+  without-falls e = part-below (without n w k) w k without-inside e λ still. true≢false (sym still ∙ without-self)
 
   -- what was shown at each number with A taken out so far, and at this one, is shown at each taken out now
   pub taken-out : (P A : ℕ → Type 0) → ((j : ℕ) → A j → bit w j ≡ false → P j) → P k
@@ -118,23 +102,13 @@ module _ (n w k : ℕ) (fits : w < 2 ^ n) (width : k < n) where
 
 -- a word with a member is not 0
 pub lowest-some : {n w k : ℕ} → Lowest n w k → w ≢ 0
-lowest-some {k = k} low none =
-    let out : _ ≡ false = ap (λ (x : ℕ). bit x k) none ∙ bit-zero k in
-    let clash : _≡_ {A = ℕ} 0 1 = cc in
-    omega arith
+lowest-some {k = k} low none = true≢false (sym (low .member) ∙ ap (λ (x : ℕ). bit x k) none ∙ bit-zero k)
 
 -- a word and one less than it share all but the least member
 pub less-without : (n w k : ℕ) → w < 2 ^ n → Lowest n w k → intersection w (w - 1) ≡ without n w k
-less-without n w k fits low = bit-ext (intersection w (w - 1)) (without n w k) λ j. bit-intersection w (w - 1) j ∙ go j (ℕ-discrete j k)
-  where
-    both : (s t : Bool) → (s ≡ true → t ≡ true) → (s && t) ≡ s
-    both true t h = h refl
-    both false t h = refl
-
-    go : (j : ℕ) → Dec (j ≡ k) → (bit w j && bit (w - 1) j) ≡ bit (without n w k) j
-    go j (yes e) =
-        rw (e, less-self k w (low .member) (low .least), without-self n w k fits (low .width)) (and-false (bit w k))
-    go j (no ne) = both (bit w j) (bit (w - 1) j) (less-other k w (low .member) (low .least) j ne) ∙ sym (without-other n w k fits (low .width) j ne)
+less-without n w k fits low =
+    bit-ext (intersection w (w - 1)) (without n w k) λ j.
+    bit-intersection w (w - 1) j ∙ less-bit k w (low .member) (low .least) j ∙ sym (bit-without n w k j fits (low .width))
 
 -- a walk that takes out the least member ends
 pub walk-falls : {n w k next : ℕ} → w < 2 ^ n → Lowest n w k → next ≡ without n w k → next < w

@@ -6,13 +6,13 @@ use mathlib.Core.Bool.{true}
 use mathlib.Core.List.{List, [], _∷_}
 use Prim.Native.Nat.{ℕ, zero, suc, _<_}
 use native.Mathlib.Omega.{arith}
-use lib.IntN.{pos, _+ℤ_}
+use lib.IntN.{_+ℤ_}
 use lib.ListN.{length}
 use lib.Signed.{_≤ℤ_, ltZ}
 use Rattle.ground_arithmetic.specs.Bools.{is-true, refuted, by-test}
 use Rattle.ground_arithmetic.specs.Linear.{whole, plus}
 use Rattle.ground_arithmetic.specs.Sum.{least-member}
-use Rattle.paper_board.specs.Paper.View.{View, Valid}
+use Rattle.paper_board.specs.Paper.View.{View}
 use Rattle.paper_board.specs.Paper.Rules.{E, L}
 use Rattle.paper_board.specs.Paper.Limits.{Limited}
 use Rattle.paper_board.specs.Paper.Entries.{drawn}
@@ -32,14 +32,8 @@ a-member (j ∷ js) n e = (j, among-first j js)
 
 module _ (v : View) (order : List ℕ) (all : (k : ℕ) → among order k ≡ valid v k) (limits : Limited v)
     (p : Placing) (h : Keeps v p) where
-  valid-job : (k : ℕ) → among order k ≡ true → Valid v k
-  valid-job = member-valid v order all limits
-
   placed-job : (k : ℕ) → among order k ≡ true → Placed p k
-  placed-job k m = let (l, e) = valid-job k m in h .valid k l e
-
-  takes : (k : ℕ) → among order k ≡ true → pos 1 ≤ℤ L v k
-  takes = member-takes v order all limits
+  placed-job k m = let (l, e) = member-valid v order all limits k m in h .valid k l e
 
   -- k is still to be placed
   abbrev Left : List ℕ → ℕ → Type 0
@@ -64,7 +58,7 @@ module _ (v : View) (order : List ℕ) (all : (k : ℕ) → among order k ≡ va
           whole,
           first i (unplaced-is v order ps i .show (n, m)),
           h .facts (is-arc i j) (drawn i j arc) (placed-job i m) placed,
-          takes i m,
+          member-takes v order all limits i m,
           plus (p .start i) (L v i),
         )
 
@@ -74,7 +68,7 @@ module _ (v : View) (order : List ℕ) (all : (k : ℕ) → among order k ≡ va
     others-after : (k : ℕ) → Left ps k → j ≢ k → (p .start j +ℤ L v j) ≤ℤ p .start k
     others-after k b ne =
         let m = left-member ps k b in
-        ⊎-elim (λ e. e) (λ e. omega (whole, first k b, takes k m, plus (p .start k) (L v k)))
+        ⊎-elim (λ e. e) (λ e. omega (whole, first k b, member-takes v order all limits k m, plus (p .start k) (L v k)))
         (h .apart j k placed (placed-job k m) ne)
 
     still-ahead : Ahead (j ∷ ps)
@@ -91,7 +85,7 @@ module _ (v : View) (order : List ℕ) (all : (k : ℕ) → among order k ≡ va
   unfolding search
   search-finds d zero ps e ahead = tt
   search-finds d (suc n) ps e ahead =
-      let below : (k : ℕ) → Left ps k → k < v .jobs = λ k a. valid-job k (left-member ps k a) .0 in
+      let below : (k : ℕ) → Left ps k → k < v .jobs = λ k a. member-valid v order all limits k (left-member ps k a) .0 in
       let (x, s) = a-member (unplaced v order ps) n e in
       let (j, l, a, least) = least-member (v .jobs) (among (unplaced v order ps)) (p .start) x (below x s) s in
       let first : (k : ℕ) → Left ps k → p .start j ≤ℤ p .start k = λ k b. least k (below k b) b in

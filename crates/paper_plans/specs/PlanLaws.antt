@@ -1,7 +1,7 @@
 -- What the planner tries and hands back: the valid jobs, each once, and a plan, a word with a list of starts, that reads as the
 -- placing of the jobs placed.
 use mathlib.Core.Path.{_≡_, sym, _∙_}
-use mathlib.Core.Bool.{true, false, _&&_, or-comm}
+use mathlib.Core.Bool.{true, _&&_, or-comm}
 use mathlib.Core.List.{List, [], _∷_}
 use mathlib.Core.Option.{none}
 use Prim.Native.Nat.{ℕ, _+_, _<_, _≤_}
@@ -21,11 +21,10 @@ use Rattle.paper_board.specs.Paper.Tests.{valid, between}
 use Rattle.paper_board.specs.Tests.Live.{valid-yes}
 use Rattle.paper_board.specs.Tests.LimitsDecided.{past, decides-between}
 use Rattle.paper_board.specs.declared.Board.{Board}
-use Rattle.paper_board.specs.declared.Refusal.the-variants as Refused
 use Rattle.paper_closure.specs.Check.{passes}
 use Rattle.paper_entries.specs.Paper.Entry.{number}
 use Rattle.paper_entries.specs.Paper.Gate.{budgetLimit, budgetCheck, gate}
-use Rattle.paper_entries.specs.Lines.{no-line, met, unmet, passed}
+use Rattle.paper_entries.specs.Lines.{no-line, unmet, passed}
 use Rattle.paper_plans.specs.declared.PlanAnswer.{PlanAnswer}
 use Rattle.paper_plans.specs.declared.PlanAnswer.the-variants as Answers
 use Rattle.paper_plans.specs.Paper.Lists.{range, among}
@@ -103,11 +102,7 @@ beyond-budget v budget (Tries.none u) = rw (lt-leb (budget + 1 + u) budget (omeg
 pub budget-within : (z : ℤ) → gate (budgetCheck z ∷ []) ≡ none → IsBudget z
 budget-within z e = decides-between (pos 0) budgetLimit z .yes (not-false (between (pos 0) budgetLimit z) (passed (budgetCheck z) [] e .0))
 
-module _ (b : Board) (z : ℤ) (handed-in : passes b ≡ true) where
-  pub plan-refused : between (pos 0) budgetLimit z ≡ false → plan b z ≡ unplanned (Answers.Refused Refused.Budget)
-  unfolding plan
-  plan-refused e = rw (plan, handed-in, ← met (budgetCheck z) [] (rw e))
-
-  pub plan-tries : between (pos 0) budgetLimit z ≡ true → plan b z ≡ answer (view b) (number z) (tries (view b) (validJobs (view b)))
-  unfolding plan
-  plan-tries e = rw (plan, handed-in, ← unmet (budgetCheck z) [] (rw e), ← no-line)
+pub plan-tries : (b : Board) (z : ℤ) → passes b ≡ true → between (pos 0) budgetLimit z ≡ true
+    → plan b z ≡ answer (view b) (number z) (tries (view b) (validJobs (view b)))
+unfolding plan
+plan-tries b z handed-in e = rw (plan, handed-in, ← unmet (budgetCheck z) [] (rw e), ← no-line)

@@ -1,9 +1,10 @@
 -- `engine_limits::is_zero_row` meets its contract: each test is asked where those before it hold. Assumes nothing.
-use mathlib.Core.Path.{_≡_, sym, _∙_}
+use mathlib.Core.Path.{_≡_, _∙_}
 use mathlib.Core.Bool.{_&&_}
 use mathlib.Core.Logic.{⊎-elim}
 use mir.ValLaws.{toZ-ofZ}
 use borrow.Author.Needs.{needs}
+use Rattle.ground_arithmetic.specs.Bools.{and-asked, and-unasked}
 use Rattle.paper_board.specs.Tests.Limits.{isZero}
 use Rattle.engine_limits.proofs.is_zero_row.Statement.{statement}
 use Rattle.engine_limits.proofs.is_zero_row.Tie as tie
@@ -15,17 +16,17 @@ joined c =
     let f = c .before .before .fits in
     let first = simp (toZ-ofZ, f .length) at (c .before .is-zero .ensures) in
     ⊎-elim
-    (λ w. rw (sym first ∙ w .0 .taken) (simp (toZ-ofZ, f .earliest) at (w .2 ∙ w .1 .ensures)))
-    (λ w. rw (sym first ∙ w .0 .left) (w .1 ∙ w .0 .left))
+    (λ w. w .2 ∙ and-asked first (w .0 .taken) (simp (toZ-ofZ, f .earliest) at (w .1 .ensures)))
+    (λ w. w .1 ∙ and-unasked first (w .0 .left) _)
     (c .if1 .came)
 
 returns : tie.Need-returns
 returns c =
     let f = c .before .before .before .before .fits in
-    rw (sym (joined (c .before .before)) ∙ c .before .if2 .taken) (simp (toZ-ofZ, f .latest) at (c .is-zero3 .ensures))
+    and-asked (joined (c .before .before)) (c .before .if2 .taken) (simp (toZ-ofZ, f .latest) at (c .is-zero3 .ensures))
 
 returns-2 : tie.Need-returns-2
-returns-2 c = c .if2 .left ∙ rw (sym (joined (c .before)) ∙ c .if2 .left)
+returns-2 c = and-unasked (joined (c .before)) (c .if2 .left) _
 
 pub is-zero-row-spec : {M : Type 1} → statement M
 is-zero-row-spec =

@@ -27,15 +27,19 @@ abbrev μ-loop : tie.MeasureT-loop
 loop-holds : tie.Need-loop-holds Inv-loop μ-loop
 loop-holds c = (search needs, λ j l. absurd (omega arith))
 
+-- the turn of the loop that a test belongs to
+abbrev turn : tie.After-place-holds Inv-loop μ-loop → tie.In-loop Inv-loop μ-loop
+turn c = c .before .before .before .before .before .before .before
+
 -- what the test of place k decides
 tested : (c : tie.After-place-holds Inv-loop μ-loop)
-    → let a = c .before .before .before .before .before .before .before .before .before .args in
-    let k = c .before .before .before .before .before .before .before .before .loop .k in
+    → let a = turn c .before .before .args in
+    let k = turn c .before .loop .k in
     Decides (c .place-holds .result)
     (PlaceAt (a .jobs) (now (a .marks)) (now (a .lengths)) (now (a .earliest)) (now (a .latest)) (now (a .after)) (now (a .before)) k)
 tested c =
-    let a = c .before .before .before .before .before .before .before .before .before .args in
-    let k = c .before .before .before .before .before .before .before .before .loop .k in
+    let a = turn c .before .before .args in
+    let k = turn c .before .loop .k in
     let l : SFits w32 (getD (now (a .lengths)) k (pos 0)) = search needs in
     let e : SFits w32 (getD (now (a .earliest)) k (pos 0)) = search needs in
     let d : SFits w32 (getD (now (a .latest)) k (pos 0)) = search needs in
@@ -43,12 +47,12 @@ tested c =
 
 returns : tie.Need-returns Inv-loop μ-loop
 returns c =
-    let below = c .before .before .before .before .before .before .before .before .loop-test .taken in
+    let below = turn (c .before) .loop-test .taken in
     failed λ h. refuted (not-true _ (c .if1 .taken)) (tested (c .before) .show (h _ below))
 
 loop-again : tie.Need-loop-again Inv-loop μ-loop
 loop-again c =
-    let l = c .before .before .before .before .before .before .before .before .before .loop in
+    let l = turn (c .before) .before .loop in
     (search needs, below-more _ _ (l .inv .1) (tested (c .before) .yes (not-false _ (c .if1 .left))))
 
 returns-2 : tie.Need-returns-2 Inv-loop μ-loop

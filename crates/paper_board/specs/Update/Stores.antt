@@ -12,12 +12,13 @@ use lib.IntN.{pos}
 use lib.ListN.{length, getD, set, length-map, List·getD-map}
 use lib.Seq.{getD-set-same, getD-set-other}
 use borrow.Author.Tests.{eqb-true, eqb-false, eq-eqb, ne-eqb, not-true}
-use Rattle.ground_arithmetic.specs.Bools.{is-false, and-parts}
+use Rattle.ground_arithmetic.specs.Bools.{and-parts}
 use Rattle.ground_sets.specs.Bit.{bit, with, without}
-use Rattle.ground_sets.specs.BitLaws.{bit-zero, bit-with, bit-without, bit-ext, bits-bound}
+use Rattle.ground_sets.specs.BitLaws.{bit-zero, bit-with, bit-without, bit-ext}
 use Rattle.paper_board.specs.declared.Board.{Board}
 use Rattle.paper_board.specs.Paper.View.{Row, Arc, rowOf, arcOf, arcIntoOf, view}
 use Rattle.paper_board.specs.Paper.Limits.{jobLimit, Shape, Within}
+use Rattle.paper_board.specs.Tests.Ranges.{after-fits, before-fits}
 use Rattle.paper_board.specs.Update.Updates.{store, link, isolate, invalidate}
 
 -- the arrays have a place for every job
@@ -95,10 +96,6 @@ module _ (words : List ℕ) (j : ℕ) (inside : j < jobLimit) (size : length wor
 -- ---- arcs
 
 module _ (b : Board) (within : Within b) where
-  -- a word with jobs for members is as narrow as its type says
-  narrow : (w : ℕ) → ((y : ℕ) → bit w y ≡ true → y < b .jobs) → w < 2 ^ jobLimit
-  narrow w members = bits-bound jobLimit w λ y l. is-false (bit w y) λ e. omega (arith, within .limits .jobs, members y e)
-
   module _ (i k : ℕ) (job-i : i < b .jobs) (job-k : k < b .jobs) where
     pub linked : (x y : ℕ) → arcOf (link b i k) x y ≡ (arcOf b x y || (eqb i x && eqb k y))
     linked = inserted (b .after) i k (omega (arith, within .limits .jobs, within .shape .after))
@@ -127,17 +124,12 @@ module _ (b : Board) (within : Within b) where
 
   module _ (j : ℕ) (job : j < b .jobs) where
     pub unlinked : (x y : ℕ) → arcOf (invalidate b j) x y ≡ (arcOf b x y && (not (eqb j x) && not (eqb j y)))
-    unlinked =
-        isolated (b .after) j (place b within j job) (within .shape .after) λ x.
-        narrow (getD (b .after) x 0) λ y e. within .limits .arcs x y e .1 .0
+    unlinked = isolated (b .after) j (place b within j job) (within .shape .after) (after-fits b within)
 
     pub unlinked-twice : (x y : ℕ) → arcIntoOf (invalidate b j) y x ≡ arcOf (invalidate b j) x y
     unlinked-twice x y =
-        isolated (b .before) j (place b within j job) (within .shape .before) into-narrow y x
+        isolated (b .before) j (place b within j job) (within .shape .before) (before-fits b within) y x
         ∙ rw (within .twice x y, and-comm (not (eqb j y)) (not (eqb j x))) (sym (unlinked x y))
-      where
-        into-narrow : (y : ℕ) → getD (b .before) y 0 < 2 ^ jobLimit
-        into-narrow y = narrow (getD (b .before) y 0) λ x e. within .limits .arcs x y (sym (within .twice x y) ∙ e) .0 .0
 
     pub unlinked-old : (x y : ℕ) → Arc (view (invalidate b j)) x y → Arc (view b) x y × (x ≢ j) × (y ≢ j)
     unlinked-old x y e =

@@ -146,7 +146,7 @@ module _ (b : Board) (within : Within b) where
 
   -- the jobs of the set are invalid
   pub strike-member : (set j : ℕ) → bit set j ≡ true → j < b .jobs → rowOf (strike b set) j .mark ≡ 2
-  unfolding strike strikeBelow
+  unfolding strikeBelow
   strike-member set j e job =
       let room : j < length (b .marks) = omega (arith, within .limits .jobs, within .shape .marks) in
       getD-changed (cleared 2 set) (b .jobs) (b .marks) j 0 job room ∙ rw e

@@ -8,7 +8,7 @@ returns : tie.Need-returns
 unfolding between
 returns c =
     let f = c .before .fits in
-    simp (toZ-ofZ, f .low, f .high, f .z, simp (toZ-ofZ, f .low, f .z) at (c .if1 .taken))
+    simp (toZ-ofZ, f .high, f .z, simp (toZ-ofZ, f .low, f .z) at (c .if1 .taken))
 
 returns-2 : tie.Need-returns-2
 unfolding between
