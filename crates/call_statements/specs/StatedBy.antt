@@ -1,6 +1,6 @@
 -- What an entry states that its checks let pass: the board that shows it is the paper's (`stated-raw`), and the code can put it there
 -- (`stated-admissible`).
-use mathlib.Core.Path.{_≡_, refl, sym, ap}
+use mathlib.Core.Path.{_≡_, refl, ap}
 use mathlib.Core.Bool.{Bool, true, false, cond}
 use mathlib.Core.List.{[], _∷_}
 use mathlib.Core.Option.{none}

@@ -1,6 +1,6 @@
 -- A run of inferences on a board's arrays, until nothing is left to infer or a mark would have to change, leaves the closure.
-use mathlib.Core.Path.{_≡_, refl, sym, _∙_, subst}
-use mathlib.Core.Bool.{Bool, true, false}
+use mathlib.Core.Path.{_≡_, sym, _∙_, subst}
+use mathlib.Core.Bool.{Bool, true}
 use mathlib.Core.List.{List}
 use mathlib.Core.Option.{Option, none, some}
 use Prim.Native.Nat.{ℕ, _<_}
@@ -46,6 +46,12 @@ measured n lengths earliest latest marks after before b jobs = rw jobs
 module _ (n : ℕ) (lengths earliest latest : List ℤ) (marks after before : List ℕ) where
   pub advances-none : Advances n lengths earliest latest marks after before true lengths earliest latest marks after before
   advances-none b jobs within = reached-self (filled b lengths earliest latest marks after before) within
+
+  -- a run that ends with a board
+  pub advances-possible : (possible : Bool) (lengths' earliest' latest' : List ℤ) (marks' after' before' : List ℕ) → possible ≡ true
+      → Advances n lengths earliest latest marks after before possible lengths' earliest' latest' marks' after' before'
+      → Advances n lengths earliest latest marks after before true lengths' earliest' latest' marks' after' before'
+  advances-possible possible lengths' earliest' latest' marks' after' before' holds more = rw holds at more
 
   module _ (lengths' earliest' latest' : List ℤ) (marks' after' before' : List ℕ) (run : Advances n lengths earliest latest marks after before true lengths' earliest' latest' marks' after' before') where
     -- one run after another
@@ -104,21 +110,21 @@ pub record Led (n : ℕ) (lengths₀ earliest₀ latest₀ : List ℤ) (marks₀
   pub is-live : lives ≡ unmarked n marks 2
   pub is-valid : valids ≡ marked n marks 1
 
-pub led : (n : ℕ) (lengths₀ earliest₀ latest₀ : List ℤ) (marks₀ after₀ before₀ : List ℕ) (lengths earliest latest : List ℤ) (marks after before : List ℕ)
-    (lengths' earliest' latest' : List ℤ) (marks' after' before' : List ℕ) (possible : Bool) (lives valids : ℕ)
+pub led : {n : ℕ} {lengths₀ earliest₀ latest₀ : List ℤ} {marks₀ after₀ before₀ : List ℕ} {lengths earliest latest : List ℤ} {marks after before : List ℕ}
+    {lengths' earliest' latest' : List ℤ} {marks' after' before' : List ℕ} {possible : Bool} {lives valids : ℕ}
     → Advances n lengths₀ earliest₀ latest₀ marks₀ after₀ before₀ true lengths earliest latest marks after before × ArraysWithin n lengths earliest latest marks after before → possible ≡ true
     → Advances n lengths earliest latest marks after before possible lengths' earliest' latest' marks' after' before' × (possible ≡ true → (lives ≡ unmarked n marks' 2) × (valids ≡ marked n marks' 1))
     → Led n lengths₀ earliest₀ latest₀ marks₀ after₀ before₀ lengths' earliest' latest' marks' after' before' lives valids
-led n lengths₀ earliest₀ latest₀ marks₀ after₀ before₀ lengths earliest latest marks after before lengths' earliest' latest' marks' after' before' possible lives valids (run, within) holds (more, sets) =
-    let on : Advances n lengths earliest latest marks after before true lengths' earliest' latest' marks' after' before' = rw holds at more in
+led (run, within) holds (more, sets) =
+    let on = advances-possible _ _ _ _ _ _ _ _ _ _ _ _ _ _ holds more in
     record {
-      run = advances-then n lengths₀ earliest₀ latest₀ marks₀ after₀ before₀ lengths earliest latest marks after before run true lengths' earliest' latest' marks' after' before' on;
-      within = advances-within n lengths earliest latest marks after before lengths' earliest' latest' marks' after' before' on within;
+      run = advances-then _ _ _ _ _ _ _ _ _ _ _ _ _ run true _ _ _ _ _ _ on;
+      within = advances-within _ _ _ _ _ _ _ _ _ _ _ _ _ on within;
       is-live = sets holds .0;
       is-valid = sets holds .1;
     }
 
-module _ (n : ℕ) (lengths₀ earliest₀ latest₀ : List ℤ) (marks₀ after₀ before₀ : List ℕ) (lengths earliest latest : List ℤ) (marks after before : List ℕ) (lives valids : ℕ)
+module _ {n : ℕ} {lengths₀ earliest₀ latest₀ : List ℤ} {marks₀ after₀ before₀ : List ℕ} {lengths earliest latest : List ℤ} {marks after before : List ℕ} {lives valids : ℕ}
     (h : Led n lengths₀ earliest₀ latest₀ marks₀ after₀ before₀ lengths earliest latest marks after before lives valids) (o : Option Fact) (found : ReadSearched Obeys lives valids earliest latest lengths before after o) where
   searched : OnArrays (λ b. Searched (view b) (Obeys (view b)) o) n lengths earliest latest marks after before
   searched b jobs within =

@@ -1,5 +1,5 @@
 -- `call_statements::stated_by` meets its contract, sort by sort: the numbers that the checks let pass can be cast. Assumes nothing.
-use mathlib.Core.Path.{_≡_, refl, sym}
+use mathlib.Core.Path.{refl}
 use borrow.Author.Needs.{needs}
 use mir.Syntax.{w32}
 use mir.Val.{SFits}

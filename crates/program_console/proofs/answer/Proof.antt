@@ -33,14 +33,24 @@ returns c = λ e. all-answered (c .before .before .before .before .before .loop 
 next-requires : tie.Need-next-requires Inv-loop μ-loop
 next-requires c κs = (pieces-pass (c .before .before .before .before .before .before .loop .inv .2 .given), omega (arith, c .before .before .before .before .before .before .loop .inv .0))
 
+abbrev turn : tie.After-next Inv-loop μ-loop → tie.At-loop Inv-loop μ-loop
+turn c = c .before .before .before .before .before .before .before
+
 loop-less : tie.Need-loop-less Inv-loop μ-loop
 loop-less c =
-    let left = c .before .before .before .before .before .before .before .before .before .before .loop .rest .now in
-    let piece = c .before .before .before .next in
-    omega (arith, rest-length left (piece .result .read), piece .ensures .read, piece .ensures .progress (omega (arith, c .before .before .before .before .before .if2 .left)))
+    let piece = c .before .before .before in
+    omega (
+      arith,
+      rest-length (turn piece .loop .rest .now) (piece .next .result .read),
+      piece .next .ensures .read,
+      piece .next .ensures .progress (omega (arith, piece .before .before .if2 .left)),
+    )
 
 loop-again : tie.Need-loop-again Inv-loop μ-loop
-loop-again c = (c .before .before .before .next .kept .1 .1 .0 ∙ c .before .before .before .before .before .before .before .before .before .before .loop .inv .0, c .before .before .before .next .ensures .written, next-piece (c .before .before .before .before .before .before .before .before .before .before .loop .inv .2) (c .before .before .before .next .ensures))
+loop-again c =
+    let piece = c .before .before .before in
+    let (size, _, buffered) = turn piece .loop .inv in
+    (piece .next .kept .1 .1 .0 ∙ size, piece .next .ensures .written, next-piece buffered (piece .next .ensures))
 
 returns-2 : tie.Need-returns-2 Inv-loop μ-loop
 returns-2 c = λ e. absurd (false≢true e)

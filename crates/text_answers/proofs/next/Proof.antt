@@ -26,13 +26,20 @@ abbrev μ-loop : tie.MeasureT-loop
 space : (c : tie.Else1 Inv-loop μ-loop) → c .before .before .loop .at + longest ≤ length (c .before .before .loop .out)
 space c = omega (arith, c .if1 .left, c .before .before .loop .inv .1 .written)
 
+-- places that the answers look back to: where the loop begins, and the line that is answered
+abbrev head : tie.After-line-length Inv-loop μ-loop → tie.At-loop Inv-loop μ-loop
+head c = c .before .before .before
+
+abbrev line : tie.After-answer Inv-loop μ-loop → tie.Else2 Inv-loop μ-loop
+line c = c .before .before .before .before
+
 -- the line has its line feed
 ended : (c : tie.Else2 Inv-loop μ-loop)
-    → (c .before .line-length .result ≡ lineLength (c .before .before .before .before .loop .rest .now))
-    × (c .before .line-length .result < length (c .before .before .before .before .loop .rest .now))
+    → (c .before .line-length .result ≡ lineLength (head (c .before) .loop .rest .now))
+    × (lineLength (head (c .before) .loop .rest .now) < length (head (c .before) .loop .rest .now))
 ended c =
     let is = c .before .line-length .ensures in
-    (is, omega (arith, is, c .if2 .left, prefix-within inLine (c .before .before .before .before .loop .rest .now)))
+    (is, omega (arith, is, c .if2 .left, prefix-within inLine (head (c .before) .loop .rest .now)))
 
 loop-holds : tie.Need-loop-holds Inv-loop μ-loop
 loop-holds c = (refl, going-start _ _ _ (c .before .before .pre .0))
@@ -53,13 +60,14 @@ put-refusal-requires : tie.Need-put-refusal-requires Inv-loop μ-loop
 put-refusal-requires c κs = space (c .before .before .before)
 
 same-length-2 : tie.Need-same-length-2 Inv-loop μ-loop
-same-length-2 c = c .before .before .put-refusal .kept .0 ∙ c .before .before .before .before .before .before .before .before .loop .inv .0
+same-length-2 c = c .before .before .put-refusal .kept .0 ∙ head (c .before .before .before .before .before) .loop .inv .0
 
 returns-2 : tie.Need-returns-2 Inv-loop μ-loop
 returns-2 c =
-    let at = c .before .before .before .before .before .before .before .before in
-    let all = sym (c .before .before .before .before .before .line-length .ensures) ∙ c .before .before .before .before .if2 .taken in
-    last _ _ _ _ _ _ (at .loop .inv .1) _ _ (space (c .before .before .before .before .before .before)) (c .before .before .put-refusal .kept .0) (c .before .before .before .before .before .before .before .loop-test .taken) all (c .before .before .put-refusal .ensures)
+    let length = c .before .before .before .before .before in
+    let all = sym (length .line-length .ensures) ∙ c .before .before .before .before .if2 .taken in
+    last _ _ _ _ _ _ (head length .loop .inv .1) _ _ (space (length .before)) (c .before .before .put-refusal .kept .0) (length .before .before .loop-test .taken) all
+    (c .before .before .put-refusal .ensures)
 
 sub-read : tie.Need-sub-read Inv-loop μ-loop
 sub-read c = omega (arith, ended c)
@@ -71,30 +79,36 @@ part-read-end : tie.Need-part-read-end Inv-loop μ-loop
 part-read-end c = omega (arith, ended c)
 
 answer-requires : tie.Need-answer-requires Inv-loop μ-loop
-answer-requires c κs = (c .before .before .before .before .before .before .before .loop .inv .1 .passes, space (c .before .before .before .before .before))
+answer-requires c κs = let length = c .before .before .before .before in (head length .loop .inv .1 .passes, space (length .before))
 
 add-after : tie.Need-add-after Inv-loop μ-loop
-add-after c = record { fits = omega (arith, ended (c .before .before .before .before .before .before .before), c .before .before .before .before .before .before .before .before .before .before .before .loop .inv .1 .within) }
+add-after c =
+    let read = line (c .before .before .before) in
+    record { fits = omega (arith, ended read, head (read .before) .loop .inv .1 .within) }
 
 sub-rest : tie.Need-sub-rest Inv-loop μ-loop
-sub-rest c = omega (arith, ended (c .before .before .before .before .before .before .before))
+sub-rest c = omega (arith, ended (line (c .before .before .before)))
 
 part-rest-start : tie.Need-part-rest-start Inv-loop μ-loop
-part-rest-start c = omega (arith, ended (c .before .before .before .before .before .before .before))
+part-rest-start c = omega (arith, ended (line (c .before .before .before)))
 
 part-rest-end : tie.Need-part-rest-end Inv-loop μ-loop
-part-rest-end c = omega (arith, ended (c .before .before .before .before .before .before .before))
+part-rest-end c = omega (arith, ended (line (c .before .before .before)))
 
 loop-less : tie.Need-loop-less Inv-loop μ-loop
-loop-less c = omega (arith, ended (c .before .before .before .before .before .before .before .before), rest-length (c .before .before .before .before .before .before .before .before .before .before .before .before .loop .rest .now) (c .before .before .before .before .before .before .before .before .before .line-length .result + 1))
+loop-less c =
+    let read = line (c .before .before .before .before) in
+    omega (arith, ended read, rest-length (head (read .before) .loop .rest .now) (read .before .line-length .result + 1))
 
 loop-again : tie.Need-loop-again Inv-loop μ-loop
 loop-again c =
-    let at = c .before .before .before .before .before .before .before .before .before .before .before .before in
-    let (is, more) = ended (c .before .before .before .before .before .before .before .before) in (
-      c .before .before .before .before .answer .kept .1 .1 .0 ∙ at .loop .inv .0,
+    let a = c .before .before .before .before in
+    let read = line a in
+    let at = head (read .before) in
+    let (is, more) = ended read in (
+      a .answer .kept .1 .1 .0 ∙ at .loop .inv .0,
       rw is
-          (going-line _ _ _ _ _ _ (at .loop .inv .1) _ _ _ (space (c .before .before .before .before .before .before .before .before .before .before)) (c .before .before .before .before .answer .kept .1 .1 .0) (rw is at more) (rw (c .before .before .before .before .before .before .read .ensures, sub-zero, is) at (c .before .before .before .before .answer .ensures))),
+          (going-line _ _ _ _ _ _ (at .loop .inv .1) _ _ _ (space (read .before .before)) (a .answer .kept .1 .1 .0) more (rw (a .before .before .read .ensures, sub-zero, is) at (a .answer .ensures))),
     )
 
 same-length-3 : tie.Need-same-length-3 Inv-loop μ-loop

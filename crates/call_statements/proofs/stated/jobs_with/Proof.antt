@@ -1,6 +1,5 @@
 -- `call_statements::stated::jobs_with` meets its contract: a row alone makes one job more. Assumes nothing.
 use borrow.Author.Needs.{needs}
-use native.Mathlib.Omega.{arith}
 use Rattle.call_statements.proofs.stated.jobs_with.Statement.{statement}
 use Rattle.call_statements.proofs.stated.jobs_with.Tie as tie
 

@@ -14,6 +14,20 @@ use Rattle.call_statements.proofs.stated.state.Tie as tie
 room : (c : tie.After-known-told) → c .before .before .before .args .jobs < jobLimit
 room c = (rw (c .before .stated .given .1) at (c .before .before .before .pre .1)) .0
 
+update-requires : tie.Need-update-requires
+update-requires c κs =
+    let one = c .before .before .before .before .before .before .before in
+    let (within, said) = one .before .before .pre in
+    let (known, timely) = rw (one .stated2 .given .1) at said in
+    (within, known, timely)
+
+update-both-requires : tie.Need-update-both-requires
+update-both-requires c κs =
+    let two = c .before .before .before .before .before .before .before in
+    let (within, said) = two .before .before .pre in
+    let (known, timely, known2, timely2) = rw (two .stated3 .given .1) at said in
+    (within, known, timely, known2, timely2)
+
 returns : tie.Need-returns
 returns c b jobs within =
     let row = c .before .stated .given in
@@ -42,9 +56,9 @@ state-spec =
     (λ c. room c)
     (λ c. room c)
     (λ c. search needs)
-    (λ c κs. let said = rw (c .before .before .before .before .before .before .before .stated2 .given .1) at (c .before .before .before .before .before .before .before .before .before .pre .1) in (c .before .before .before .before .before .before .before .before .before .pre .0, said .0, said .1))
+    update-requires
     (λ c. search needs)
-    (λ c κs. let said = rw (c .before .before .before .before .before .before .before .stated3 .given .1) at (c .before .before .before .before .before .before .before .before .before .pre .1) in (c .before .before .before .before .before .before .before .before .before .pre .0, said .0, said .1, said .2, said .3))
+    update-both-requires
     returns
     returns-2
     returns-3)

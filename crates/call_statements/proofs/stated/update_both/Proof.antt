@@ -5,6 +5,9 @@ use Rattle.call_statements.specs.Stated.{arrays-within, second-fact, fir
 use Rattle.call_statements.proofs.stated.update_both.Statement.{statement}
 use Rattle.call_statements.proofs.stated.update_both.Tie as tie
 
+abbrev start : tie.After-update → tie.Start
+start c = c .before .before .before .before .before .before .before
+
 returns : tie.Need-returns
 returns c b jobs within =
     let first = c .before in
@@ -13,16 +16,18 @@ returns c b jobs within =
 
 update-requires-2 : tie.Need-update-requires-2
 update-requires-2 c κs =
-    let first = c .before .before .before .before .before .before .before in
-    let holds = not-false (first .update .result) (c .before .before .before .before .before .before .if1 .left) in
-    let (within, known, _, other, timely) = first .before .before .before .before .before .before .before .pre in
+    let on = c .before .before .before .before .before .before in
+    let first = on .before in
+    let holds = not-false (first .update .result) (on .if1 .left) in
+    let (within, known, _, other, timely) = start first .pre in
     (arrays-within _ _ _ _ _ _ _ _ known _ _ _ _ _ _ (rw holds at (first .update .ensures)) within, other, timely)
 
 returns-2 : tie.Need-returns-2
 returns-2 c =
-    let first = c .before .before .before .before .before .before .before .before in
-    let holds = not-false (first .update .result) (c .before .before .before .before .before .before .before .if1 .left) in
-    second-fact _ _ _ _ _ _ _ _ (first .before .before .before .before .before .before .before .pre .1) _ _ _ _ _ _ (rw holds at (first .update .ensures)) _ (c .update2 .result) _ _ _ _ _ _ (c .update2 .ensures)
+    let on = c .before .before .before .before .before .before .before in
+    let first = on .before in
+    let holds = not-false (first .update .result) (on .if1 .left) in
+    second-fact _ _ _ _ _ _ _ _ (start first .pre .1) _ _ _ _ _ _ (rw holds at (first .update .ensures)) _ (c .update2 .result) _ _ _ _ _ _ (c .update2 .ensures)
 
 pub update-both-spec : {M : Type 1} → statement M
 update-both-spec = tie.close (tie.spec (λ c κs. search needs) returns update-requires-2 returns-2)

@@ -9,6 +9,10 @@ use Rattle.engine_search.specs.Reads.{arrays-hold}
 use Rattle.engine_closure.proofs.close.advance.Statement.{statement}
 use Rattle.engine_closure.proofs.close.advance.Tie as tie
 
+-- where the sets of the marks are read, before propagation
+abbrev marks : tie.After-propagate → tie.After-sets
+marks c = c .before .before .before .before .before .before
+
 -- the jobs have places
 room : (c : tie.Start) → c .args .jobs ≤ jobLimit
 room c = omega (arith, c .pre .jobs, c .pre .within .limits .jobs)
@@ -19,7 +23,7 @@ propagate-requires c κs = arrays-hold _ (c .before .before .before .before .bef
 returns : tie.Need-returns
 returns c =
     let ran = c .before in
-    let (live, valid) = ran .before .before .before .before .before .before .sets .ensures in
+    let (live, valid) = marks ran .sets .ensures in
     let (onward, shut) = ran .propagate .ensures in
     (advanced _ _ _ _ _ _ _ _ _ live valid _ _ _ _ _ onward shut, λ _. (live, valid))
 
@@ -27,7 +31,7 @@ returns-2 : tie.Need-returns-2
 returns-2 c =
     let both = c .before in
     let ran = both .before .before in
-    let (live, valid) = ran .before .before .before .before .before .before .sets .ensures in
+    let (live, valid) = marks ran .sets .ensures in
     let (onward, shut) = ran .propagate .ensures in
     (advanced-none _ _ _ _ _ _ _ _ _ live valid _ _ _ _ _ onward shut _ (both .intersection .ensures) (c .if2 .taken) (both .intersection .ok), λ e. absurd (search needs))
 
@@ -37,11 +41,11 @@ returns-3 c =
     let other = struck .before .before .before .before .before .before .before in
     let both = other .before in
     let ran = both .before .before in
-    let (live, valid) = ran .before .before .before .before .before .before .sets .ensures in
+    let (live, valid) = marks ran .sets .ensures in
     let (onward, shut) = ran .propagate .ensures in
     let apart = sym (both .intersection .ensures) ∙ other .if2 .left in (
       advanced-struck _ _ _ _ _ _ _ _ _ live valid _ _ _ _ _ onward shut apart _ _ _ _ _ _ (struck .strike .ensures),
-      λ _. struck-sets _ _ _ _ _ _ _ _ _ live valid _ _ _ _ _ onward shut apart (ran .propagate .ok) _ (c .difference .ensures) _ _ _ _ _ _ (struck .strike .ensures) (ran .before .before .before .before .before .before .before .before .pre),
+      λ _. struck-sets _ _ _ _ _ _ _ _ _ live valid _ _ _ _ _ onward shut apart (ran .propagate .ok) _ (c .difference .ensures) _ _ _ _ _ _ (struck .strike .ensures) (marks ran .before .before .pre),
     )
 
 pub advance-spec : {M : Type 1} → statement M

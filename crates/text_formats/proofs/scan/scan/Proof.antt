@@ -36,14 +36,17 @@ found c = sym (c .before .before .number .ensures) ∙ c .length .given .1
 reads : (c : tie.After-length Inv-loop μ-loop) → Reads (head c .before .loop .t .now) (c .length .given .0 .0) (value c)
 reads c = read-number _ _ _ (found c)
 
+abbrev tested : tie.After-starts-with Inv-loop μ-loop → tie.In-loop Inv-loop μ-loop
+tested c = c .before .before .before .before
+
 same-byte : (c : tie.Else2 Inv-loop μ-loop)
-    → let l = c .before .before .before .before .before .before .loop in
+    → let l = tested (c .before) .before .loop in
     startsWith (getD (l .f .now) 0 0) (l .t .now) ≡ true
 same-byte c = sym (c .before .starts-with .ensures) ∙ not-false _ (c .if2 .left)
 
-byte-left : (c : tie.Else2 Inv-loop μ-loop) → 0 < length (c .before .before .before .before .before .before .loop .t .now)
+byte-left : (c : tie.Else2 Inv-loop μ-loop) → 0 < length (tested (c .before) .before .loop .t .now)
 byte-left c =
-    let l = c .before .before .before .before .before .before .loop in
+    let l = tested (c .before) .before .loop in
     starts-some (getD (l .f .now) 0 0) (l .t .now) (same-byte c)
 
 loop-holds : tie.Need-loop-holds Inv-loop μ-loop
@@ -77,7 +80,7 @@ loop-again c =
 
 returns-2 : tie.Need-returns-2 Inv-loop μ-loop
 returns-2 c =
-    let h = c .before .before .before .before .before .before in
+    let h = tested (c .before .before) in
     c .unmatched2 .ensures
     ∙ byte-missing _ _ _ _ _ _ (h .before .loop .inv) (h .loop-test .taken) (c .before .before .before .before .if1 .left) (sym (c .before .before .starts-with .ensures) ∙ not-true _ (c .before .if2 .taken))
 
@@ -89,7 +92,7 @@ part-t-start-2 c = byte-left c
 
 loop-again-2 : tie.Need-loop-again-2 Inv-loop μ-loop
 loop-again-2 c =
-    let h = c .before .before .before .before .before .before .before in
+    let h = tested (c .before .before .before) in
     let l = h .before .loop in
     as-parts _ _ (l .f .now) (l .t .now) _ _ 1 1
     (byte-taken _ _ _ _ _ _ (l .inv) (h .loop-test .taken) (c .before .before .before .before .before .if1 .left) (same-byte (c .before .before)))
