@@ -228,7 +228,7 @@ module _ (n : ℕ) (t : ℕ → Bool) where
 -- ---- parts of a set
 
 -- a part of a set is no greater a word
-part-at-most : (a b : ℕ) → ((k : ℕ) → bit a k ≡ true → bit b k ≡ true) → a ≤ b
+pub part-at-most : (a b : ℕ) → ((k : ℕ) → bit a k ≡ true → bit b k ≡ true) → a ≤ b
 unfolding intersection
 part-at-most a b inside =
     let same : a ≡ intersection a b = bit-ext a (intersection a b) λ k. sym (bit-intersection a b k ∙ both (bit a k) (bit b k) (inside k)) in
