@@ -1,3 +1,3 @@
--- The gate as code.
+-- The checks of a job, of a pair and of a budget, as code.
 pub mod Values
 pub mod Natural

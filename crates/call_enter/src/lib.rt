@@ -23,9 +23,10 @@ ghost use Rattle.paper_entries.specs.Paper.Enter as paper;
 ghost use Rattle.paper_entries.specs.Paper.Values.{entryOf};
 ghost use Rattle.call_statements.specs.Stated.{rawOf, Admissible};
 
-// The attempt on a copy of the board's arrays, and what follows: the board put together once, or refusal 8. What the board shows
-// already alters nothing, and a board that passes check 0 is closed.
-fn conclude(board: Board, stated: Stated, accepted: Answer) -> Entered
+// The attempt on a copy of the board's arrays, and what is concluded: the board put together once, or refusal 8. The two stand in one
+// function, since each that hands on a board copies it. What the board shows already alters nothing, and a board that passes check 0 is
+// closed.
+fn decide(board: Board, stated: Stated, accepted: Answer) -> Entered
     requires { ⌜ (passes board ≡ true) × Admissible (board .jobs) stated ⌝ }
     ensures { λ r. ⌜ r ≡ paper.concluded board accepted (rawOf board stated andThen closing.closure) ⌝ }
 {
@@ -82,6 +83,6 @@ pub fn enter(board: Board, entry: Entry) -> Entered
 {
     match entry_gate(board.jobs, entry) {
         Gate::Closed(refusal) => refused(refusal, board),
-        Gate::Open => conclude(board, stated_by(entry), acceptance(board.jobs, entry)),
+        Gate::Open => decide(board, stated_by(entry), acceptance(board.jobs, entry)),
     }
 }

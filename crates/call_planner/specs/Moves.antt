@@ -9,8 +9,7 @@ use native.Mathlib.Omega.{arith}
 use lib.IntN.{ℤ, pos, _+ℤ_}
 use lib.ListN.{length, getD, set, replicate, length-set}
 use lib.Seq.{getD-set-same, getD-set-other}
-use Rattle.ground_sets.specs.Bit.{bit, with, without, Lowest, width}
-use Rattle.ground_sets.specs.Walk.{without-inside}
+use Rattle.ground_sets.specs.Bit.{bit, with, without, Takes, width}
 use Rattle.ground_arithmetic.specs.Bools.{and-parts}
 use Rattle.paper_board.specs.declared.Board.{Board}
 use Rattle.paper_board.specs.Paper.View.{view}
@@ -23,7 +22,7 @@ use Rattle.paper_plans.specs.ListLaws.{none-among}
 use Rattle.paper_plans.specs.OutcomeLaws.{add-zero, orElse-none}
 use Rattle.paper_plans.specs.Unplaced.{none-placed}
 use Rattle.call_planner.specs.Rest.{stack, stack-same, here, back, back-same, search-here, tried-all, not-placed, placed}
-use Rattle.call_planner.specs.Waiting.{order, Waiting, WaitingWord, waiting-fits, waiting-members, least-first, no-members, waiting-placed, waiting-back, waitingCount, count-placed, some-waits}
+use Rattle.call_planner.specs.Waiting.{order, Waiting, WaitingWord, waiting-members, least-first, no-members, waiting-placed, waiting-back, waitingCount, count-placed, some-waits}
 use Rattle.call_planner.specs.Loop.{free-at-first, free-after, Placement, at, timeAt, Placements, outcome, State}
 
 module _ (b : Board) (h : Within b) where
@@ -81,23 +80,23 @@ module _ (b : Board) (h : Within b) where
         }
 
     -- a try is due: job j comes next
-    module _ (j : ℕ) (low : Lowest width left j) (affords : t < budget) where
+    module _ {j rest : ℕ} (taken : Takes width false left j rest) (affords : t < budget) where
       due : Waiting b (stack (at jobs) depth) j
-      due = s .untried j (low .member)
+      due = s .untried j (taken .member)
 
-      later : (k : ℕ) → bit (without width left j) k ≡ true → Waiting b (stack (at jobs) depth) k
-      later k m = s .untried k (without-inside width left j (waiting-fits b h left _ (s .untried)) (low .width) k m)
+      later : (k : ℕ) → bit rest k ≡ true → Waiting b (stack (at jobs) depth) k
+      later k m = s .untried k (taken .inside k m)
 
       -- it places no job
       pub tried-in-vain : (ready (view b) (order b) (stack (at jobs) depth) j && inTime (view b) (stack (at jobs) depth) j) ≡ false
-          → State b jobs lefts frees depth w (without width left j) free (t + 1) budget
+          → State b jobs lefts frees depth w rest free (t + 1) budget
       tried-in-vain fails =
           let v = view b in
           let o = order b in
           let ps = stack (at jobs) depth in
           let (n, count) = some-waits b w ps (s .waiting) waits in
-          let next = least-first b h left j ps (s .untried) low in
-          let now = not-placed v o (outcome b) t n ps left _ (rw count at (s .so-far)) j (without width left j) next fails in
+          let next = least-first b ps (s .untried) taken in
+          let now = not-placed v o (outcome b) t n ps left _ (rw count at (s .so-far)) j rest next fails in
           record {
             jobs-shape = s .jobs-shape;
             lefts-shape = s .lefts-shape;
@@ -120,7 +119,7 @@ module _ (b : Board) (h : Within b) where
         jobs′ = set jobs depth j
 
         abbrev lefts′ : List ℕ
-        lefts′ = set lefts depth (without width left j)
+        lefts′ = set lefts depth rest
 
         -- what was stored before stays
         earlier : {A : Type 0} (l : List A) (x y : A) (d : ℕ) → d < depth → getD (set l depth x) d y ≡ getD l d y
@@ -132,8 +131,8 @@ module _ (b : Board) (h : Within b) where
         last-job : at jobs′ depth ≡ j
         last-job = getD-set-same jobs depth j 0 (omega (arith, room, s .jobs-shape))
 
-        last-left : at lefts′ depth ≡ without width left j
-        last-left = getD-set-same lefts depth (without width left j) 0 (omega (arith, room, s .lefts-shape))
+        last-left : at lefts′ depth ≡ rest
+        last-left = getD-set-same lefts depth rest 0 (omega (arith, room, s .lefts-shape))
 
         longer : stack (at jobs′) (suc depth) ≡ j ∷ stack (at jobs) depth
         unfolding stack
@@ -161,7 +160,7 @@ module _ (b : Board) (h : Within b) where
                 let before : d < depth = omega arith in
                 rw (
                   earlier jobs j 0 d before,
-                  earlier lefts (without width left j) 0 d before,
+                  earlier lefts rest 0 d before,
                   earlier frees free (pos 0) d before,
                   same-stack d (omega arith),
                 )
@@ -175,8 +174,8 @@ module _ (b : Board) (h : Within b) where
             let ps = stack (at jobs) depth in
             let w′ = without width w j in
             let (n, count) = some-waits b w ps (s .waiting) waits in
-            let now = placed v o (outcome b) t n ps left _ (rw count at (s .so-far)) j (without width left j)
-            (least-first b h left j ps (s .untried) low) places in
+            let now = placed v o (outcome b) t n ps left _ (rw count at (s .so-far)) j rest
+            (least-first b ps (s .untried) taken) places in
             let wait : WaitingWord b w′ (j ∷ ps) = waiting-placed b h w j ps (s .waiting) due in
             let counted : waitingCount b (j ∷ ps) ≡ n = omega (arith, count-placed b j ps due, count) in
             let dock = free-after b h j ps free (s .dock) in-time in

@@ -1,17 +1,16 @@
 -- How the planner's loop ends: the empty list is exhausted, a try beyond the budget is due, or all valid jobs are placed. Each time
 -- the answer is the one that the tries give.
-use mathlib.Core.Path.{_≡_, sym, ap, _∙_}
+use mathlib.Core.Path.{_≡_, refl, sym, ap, _∙_}
 use mathlib.Core.Logic.{_≢_}
-use mathlib.Core.Bool.{true}
+use mathlib.Core.Bool.{true, false}
 use mathlib.Core.List.{List, []}
 use Prim.Native.Nat.{ℕ, zero, suc, _+_, _<_, _≤_}
 use native.Mathlib.Omega.{arith}
 use lib.IntN.{ℤ}
 use lib.ListN.{length}
-use lib.Count.{trailingZeros}
-use Rattle.ground_sets.specs.Bit.{bit, without, width}
+use Rattle.ground_sets.specs.Bit.{bit, Next, width}
 use Rattle.ground_sets.specs.BitLaws.{bit-zero, bit-ext}
-use Rattle.ground_sets.specs.Walk.{trailing-lowest}
+use Rattle.ground_sets.specs.Walk.{trailing-lowest, takes}
 use Rattle.ground_arithmetic.specs.Bools.{is-true, refuted, same-tests}
 use Rattle.paper_board.specs.declared.Board.{Board}
 use Rattle.paper_board.specs.Paper.View.{view}
@@ -58,13 +57,13 @@ module _ (b : Board) (h : Within b) (jobs lefts : List ℕ) (frees : List ℤ) (
       rw whole (sym (none-in-budget (view b) budget t (s .affordable)))
 
   pub overspent : w ≢ 0 → left ≢ 0 → t ≡ budget → unplanned (Answers.Spent budget) ≡ answer (view b) budget (outcome b)
+  unfolding Next
   overspent waits some all =
       let ps = stack (at jobs) depth in
-      let j = trailingZeros width left in
-      let low = trailing-lowest width left some (waiting-fits b h left ps (s .untried)) in
+      let fits = waiting-fits b h left ps (s .untried) in
+      let taken = takes width false left _ _ fits (trailing-lowest width left some fits) refl in
       let (n, count) = some-waits b w ps (s .waiting) waits in
-      let next = least-first b h left j ps (s .untried) low in
-      let now = try-due (view b) (order b) (outcome b) t n ps left _ (rw count at (s .so-far)) j (without width left j) next in
+      let now = try-due (view b) (order b) (outcome b) t n ps left _ (rw count at (s .so-far)) _ _ (least-first b ps (s .untried) taken) in
       rw (now, all) (sym (beyond-budget (view b) budget _))
 
   module _ (empty : w ≡ 0) where

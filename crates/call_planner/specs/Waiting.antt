@@ -10,7 +10,7 @@ use native.Mathlib.Omega.{arith}
 use lib.Dec.{eqb}
 use lib.ListN.{length, getD}
 use borrow.Author.Tests.{eq-eqb, ne-eqb}
-use Rattle.ground_sets.specs.Bit.{bit, intersection, with, without, Lowest, width}
+use Rattle.ground_sets.specs.Bit.{bit, intersection, with, without, Next, Takes, width}
 use Rattle.ground_sets.specs.BitLaws.{bit-zero, bit-ext, bits-bound, bit-intersection, bit-with}
 use Rattle.ground_sets.specs.Walk.{without-self, without-other}
 use Rattle.ground_arithmetic.specs.Bools.{is-true, is-false, refuted, and-parts, and-both}
@@ -86,24 +86,24 @@ module _ (b : Board) where
       go zero e = absurd (ne (bit-ext w 0 λ k. is-false (bit w k) (λ m. none-waits ps e k (is k .yes m)) ∙ sym (bit-zero k)))
       go (suc n) e = (n, e)
 
+  -- the members of a set are its least one, and those of the rest
+  pub least-first : {w j rest : ℕ} (ps : List ℕ) → ((k : ℕ) → bit w k ≡ true → Waiting ps k) → Takes width false w j rest
+      → members (view b) w ≡ j ∷ members (view b) rest
+  unfolding Next
+  least-first {w} {j} {rest} ps inside taken =
+      lowest-first (bit w) (b .jobs) j
+      (valid-yes (view b) j (inside j (taken .member) .0) .0)
+      (taken .member)
+      (taken .next .least)
+      (bit rest)
+      (taken .out)
+      (taken .others)
+
   module _ (h : Within b) where
     -- a set of jobs that wait is a word of the code
     pub waiting-fits : (w : ℕ) (ps : List ℕ) → ((k : ℕ) → bit w k ≡ true → Waiting ps k) → w < 2 ^ width
     waiting-fits w ps inside = bits-bound width w λ k l. is-false (bit w k) λ e.
         omega (arith, valid-yes (view b) k (inside k e .0) .0, h .limits .jobs)
-
-    -- the members of a set after its least one are the members without it
-    pub least-first : (w j : ℕ) (ps : List ℕ) → ((k : ℕ) → bit w k ≡ true → Waiting ps k) → Lowest width w j
-        → members (view b) w ≡ j ∷ members (view b) (without width w j)
-    least-first w j ps inside low =
-        let fits = waiting-fits w ps inside in
-        lowest-first (bit w) (b .jobs) j
-        (valid-yes (view b) j (inside j (low .member) .0) .0)
-        (low .member)
-        (low .least)
-        (bit (without width w j))
-        (without-self width w j fits (low .width))
-        (without-other width w j fits (low .width))
 
     -- a job placed
     pub waiting-placed : (w j : ℕ) (ps : List ℕ) → WaitingWord w ps → Waiting ps j → WaitingWord (without width w j) (j ∷ ps)

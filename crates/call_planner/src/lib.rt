@@ -96,8 +96,9 @@ fn search(board: Board, valid: u64, budget: u32) -> Planned
                 return unplanned(PlanAnswer::Spent(budget));
             }
             tries += 1;
-            let job = ground_sets::lowest(left);
-            left = ground_sets::without_lowest(left, job);
+            let taken = ground_sets::take_lowest(left);
+            left = taken.rest;
+            let job = taken.member;
             let start = ground_arithmetic::greater(board.earliest[job], free);
             let end = ground_arithmetic::sum(start, board.lengths[job]);
             if places(board.before[job], unplaced, end, board.latest[job]) {

@@ -28,11 +28,11 @@ use Rattle.call_statements.specs.declared.stated.Stated.{Stated}
 use Rattle.call_statements.specs.declared.stated.Stated.the-variants.{Row, One, Two}
 
 -- the row that is stated
-abbrev pub rowOf : ℤ → ℤ → ℤ → ℕ → Rows.Row
-rowOf length earliest latest mark = record { mark = mark; length = length; earliest = earliest; latest = latest }
+abbrev pub statedRow : ℤ → ℤ → ℤ → ℕ → Rows.Row
+statedRow length earliest latest mark = record { mark = mark; length = length; earliest = earliest; latest = latest }
 
 abbrev pub rawOf : Board → Stated → Option Board
-rawOf b (Row length earliest latest mark) = some (append b (rowOf length earliest latest mark))
+rawOf b (Row length earliest latest mark) = some (append b (statedRow length earliest latest mark))
 rawOf b (One f) = updateAll b (factOf f ∷ [])
 rawOf b (Two f g) = updateAll b (factOf f ∷ factOf g ∷ [])
 
@@ -47,7 +47,7 @@ grown b s = withJobs b (jobsWith (b .jobs) s)
 
 -- there is a place for the row, which is within its limits, and the facts are about jobs of the board
 abbrev pub Admissible : ℕ → Stated → Type 0
-Admissible n (Row length earliest latest mark) = (n < jobLimit) × Fits (rowOf length earliest latest mark) × (mark ≤ 1)
+Admissible n (Row length earliest latest mark) = (n < jobLimit) × Fits (statedRow length earliest latest mark) × (mark ≤ 1)
 Admissible n (One f) = Known n (factOf f) × Timely f
 Admissible n (Two f g) = Known n (factOf f) × Timely f × Known n (factOf g) × Timely g
 
@@ -76,7 +76,7 @@ module _ (b : Board) (h : Within b) where
 
   pub stated-within : (s : Stated) → Admissible (b .jobs) s → (c : Board) → rawOf b s ≡ some c → Within c
   stated-within (Row length earliest latest mark) (room, fits, low) c is =
-      let r = rowOf length earliest latest mark in
+      let r = statedRow length earliest latest mark in
       subst (Extends (suc (b .jobs)) (HasRow (b .jobs) r) b) is (appended b r h room fits low) .more .within
   stated-within (One f) (known, _) c is =
       facts-within (factOf f ∷ []) (λ x m. subst⁻¹ (Known (b .jobs)) (List·Memᴰ·eq-of-singleton m) known) c is

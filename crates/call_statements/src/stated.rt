@@ -44,7 +44,7 @@ pub fn jobs_with(jobs: usize, stated: Stated) -> usize
     }
 }
 
-// Does the board show it already?
+// Does the board show it already? Where it does, nothing need be done; a `false` too many costs time and no answer.
 pub fn is_shown<'a>(
     earliest: &'a [i32; Board::JOBS],
     latest: &'a [i32; Board::JOBS],
@@ -137,7 +137,8 @@ pub fn state(
     }
 }
 
-// What propagation has to look at first. `jobs` is the number of jobs without it.
+// What propagation has to look at first. `jobs` is the number of jobs without it. Nothing is promised of it: whatever is due first, the
+// closure is the same.
 pub fn due_to<'a>(
     jobs: usize,
     marks: &'a [u8; Board::JOBS],

@@ -1,14 +1,14 @@
 -- A walk over a set that keeps the least bound of the jobs it has passed: what stays true when a job is passed or struck, and
 -- that at the end of the walk this is the least bound of the set.
 use mathlib.Core.Path.{_≡_, refl, sym, ap, _∙_}
-use mathlib.Core.Bool.{true, false}
+use mathlib.Core.Bool.{Bool, true, false}
 use mathlib.Core.List.{List}
 use mathlib.Core.Logic.{_≢_, _⊎_, inl, inr}
 use Prim.Native.Nat.{ℕ, _^_, _<_}
 use lib.Count.{trailingZeros}
 use lib.IntN.{ℤ}
 use lib.Signed.{ltZ, _≤ℤ_}
-use Rattle.ground_sets.specs.Bit.{bit, without}
+use Rattle.ground_sets.specs.Bit.{bit, without, Takes}
 use Rattle.ground_sets.specs.BitLaws.{bit-zero, without-lt}
 use Rattle.ground_sets.specs.Walk.{trailing-lowest, without-self, without-other, without-inside, taken-out}
 use Rattle.ground_arithmetic.specs.Bools.{refuted, by-test}
@@ -26,14 +26,13 @@ Reached s times w left z = (z ≡ lastMinute) ⊎ ((x : ℕ) × (bit w x ≡ tru
 -- The jobs `left` of the set w are still ahead, and `low` is the least bound of the others, or the last minute.
 pub record Passed (s : Side) (times : List ℤ) (w left : ℕ) (low : ℤ) : Type 0 where
   pub fits : w < 2 ^ jobLimit
-  pub left-fits : left < 2 ^ jobLimit
   pub inside : (j : ℕ) → bit left j ≡ true → bit w j ≡ true
   pub least : (j : ℕ) → bit w j ≡ true → bit left j ≡ false → low ≤ℤ boundAt s times j
   pub reached : Reached s times w left low
 
 pub none-passed : (s : Side) (times : List ℤ) (w : ℕ) → w < 2 ^ jobLimit → Passed s times w w lastMinute
 none-passed s times w fits =
-    record { fits = fits; left-fits = fits; inside = λ j e. e; least = λ j e out. absurd (refuted out e); reached = inl refl }
+    record { fits = fits; inside = λ j e. e; least = λ j e out. absurd (refuted out e); reached = inl refl }
 
 -- at the end of the walk
 pub all-passed : {s : Side} {times : List ℤ} {w left : ℕ} {low : ℤ} → Times times → Passed s times w left low → left ≡ 0 → w ≢ 0
@@ -55,26 +54,14 @@ all-passed {s} {times} {w} {left} {low} hours p empty some-job = go (p .reached)
           least = below;
         }
 
-module _ {s : Side} {times : List ℤ} {w left : ℕ} {low : ℤ} (p : Passed s times w left low) (k : ℕ) (width : k < jobLimit) (member : bit left k ≡ true) where
-  abbrev rest : ℕ
-  rest = without jobLimit left k
-
-  rest-fits : rest < 2 ^ jobLimit
-  rest-fits = without-lt jobLimit left k (p .left-fits)
-
-  rest-inside : (j : ℕ) → bit rest j ≡ true → bit w j ≡ true
-  rest-inside j i = p .inside j (without-inside jobLimit left k (p .left-fits) width j i)
-
-  -- another job than k
-  ahead : (j : ℕ) → j ≢ k → bit rest j ≡ bit left j
-  ahead = without-other jobLimit left k (p .left-fits) width
-
+-- job k of those ahead is taken, and the rest are still ahead
+module _ {s : Side} {times : List ℤ} {w left k rest : ℕ} {low : ℤ} {downward : Bool} (p : Passed s times w left low) (taken : Takes jobLimit downward left k rest) where
   -- a job that was passed before is another than k
   still : (next : ℕ) → ((j : ℕ) → j ≢ k → bit next j ≡ bit w j) → Reached s times w left low → Reached s times next rest low
   still next others (inl last) = inl last
   still next others (inr (x, i, out, same)) =
-      let ne : x ≢ k = λ d. refuted out (ap (bit left) d ∙ member) in
-      inr (x, others x ne ∙ i, ahead x ne ∙ out, same)
+      let ne : x ≢ k = λ d. refuted out (ap (bit left) d ∙ taken .member) in
+      inr (x, others x ne ∙ i, taken .others x ne ∙ out, same)
 
   -- job k is passed
   pub pass : Passed s times w rest (lesser low (boundAt s times k))
@@ -82,12 +69,11 @@ module _ {s : Side} {times : List ℤ} {w left : ℕ} {low : ℤ} (p : Passed s 
       let b = boundAt s times k in
       record {
         fits = p .fits;
-        left-fits = rest-fits;
-        inside = rest-inside;
-        least = taken-out jobLimit left k (p .left-fits) width (λ j. lesser low b ≤ℤ boundAt s times j) (λ j. bit w j ≡ true)
+        inside = λ j i. p .inside j (taken .inside j i);
+        least = taken-out taken (λ j. lesser low b ≤ℤ boundAt s times j) (λ j. bit w j ≡ true)
             (λ j i out. omega (whole, p .least j i out, lesser-left low b)) (lesser-right low b);
         reached = by-test (Reached s times w rest) (ltZ low b) low b (λ d. still w (λ j ne. refl) (p .reached))
-            (λ d. inr (k, p .inside k member, without-self jobLimit left k (p .left-fits) width, refl));
+            (λ d. inr (k, p .inside k (taken .member), taken .out, refl));
       }
 
   -- job k is struck
@@ -98,18 +84,17 @@ module _ {s : Side} {times : List ℤ} {w left : ℕ} {low : ℤ} (p : Passed s 
   pub kept-passed : (P : ℕ → Type 0) → ((j : ℕ) → bit w j ≡ true → bit left j ≡ false → P j)
       → (j : ℕ) → bit kept j ≡ true → bit rest j ≡ false → P j
   kept-passed P before j i out =
-      let ne : j ≢ k = λ same. refuted (ap (bit kept) same ∙ without-self jobLimit w k (p .fits) width) i in
-      before j (without-inside jobLimit w k (p .fits) width j i) (sym (ahead j ne) ∙ out)
+      let ne : j ≢ k = λ same. refuted (ap (bit kept) same ∙ without-self jobLimit w k (p .fits) (taken .width)) i in
+      before j (without-inside jobLimit w k (p .fits) (taken .width) j i) (sym (taken .others j ne) ∙ out)
 
   pub pass-struck : Passed s times kept rest low
   pass-struck =
-      let others = without-other jobLimit w k (p .fits) width in
+      let others = without-other jobLimit w k (p .fits) (taken .width) in
       record {
         fits = without-lt jobLimit w k (p .fits);
-        left-fits = rest-fits;
         inside = λ j i.
-            let ne : j ≢ k = λ same. refuted (ap (bit rest) same ∙ without-self jobLimit left k (p .left-fits) width) i in
-            others j ne ∙ rest-inside j i;
+            let ne : j ≢ k = λ same. refuted (ap (bit rest) same ∙ taken .out) i in
+            others j ne ∙ p .inside j (taken .inside j i);
         least = kept-passed (λ j. low ≤ℤ boundAt s times j) (p .least);
         reached = still kept others (p .reached);
       }

@@ -72,8 +72,9 @@ fn whole(side: Side, times: &[i32; Board::JOBS], lengths: &[i32; Board::JOBS], s
     let mut total = 0;
     let mut left = set;
     while left != 0 {
-        let k = ground_sets::lowest(left);
-        left = ground_sets::without_lowest(left, k);
+        let taken = ground_sets::take_lowest(left);
+        left = taken.rest;
+        let k = taken.member;
         least = ground_arithmetic::lesser(least, bound(side, times, k));
         total = ground_arithmetic::sum(total, lengths[k]);
     }
@@ -103,8 +104,9 @@ fn strike(
     let mut total = load;
     let mut left = set;
     while left != 0 {
-        let k = ground_sets::next(left, downward);
-        left = ground_sets::without_next(left, k, downward);
+        let taken = ground_sets::take_next(left, downward);
+        left = taken.rest;
+        let k = taken.member;
         let low = bound(side, times, k);
         if ground_arithmetic::sum(low, total) <= best {
             kept = ground_sets::without(kept, k);

@@ -12,8 +12,9 @@ pub fn excluded<'a>(set: u64, before: &'a [u64; Board::JOBS], after: &'a [u64; B
     let mut found = 0;
     let mut left = set;
     while left != 0 {
-        let k = ground_sets::lowest(left);
-        left = ground_sets::without_lowest(left, k);
+        let taken = ground_sets::take_lowest(left);
+        left = taken.rest;
+        let k = taken.member;
         found = ground_sets::union(found, ground_sets::intersection(before[k], after[k]));
     }
     found
@@ -32,8 +33,9 @@ pub fn unfit<'a>(
     let mut found = 0;
     let mut left = set;
     while left != 0 {
-        let k = ground_sets::lowest(left);
-        left = ground_sets::without_lowest(left, k);
+        let taken = ground_sets::take_lowest(left);
+        left = taken.rest;
+        let k = taken.member;
         let window = Window {
             earliest: earliest[k],
             latest: latest[k],

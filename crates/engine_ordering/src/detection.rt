@@ -75,8 +75,9 @@ fn detect_beside<'a>(
     let known_after = after[job];
     let mut left = others;
     while left != 0 {
-        let k = ground_sets::lowest(left);
-        left = ground_sets::without_lowest(left, k);
+        let taken = ground_sets::take_lowest(left);
+        left = taken.rest;
+        let k = taken.member;
         detect_on(side, before, after, job, k, earliest, latest, lengths);
     }
     let into = ground_sets::difference(before[job], known_before);
@@ -112,8 +113,9 @@ fn detect_each<'a>(
     let mut found = no_ends();
     let mut left = due;
     while left != 0 {
-        let job = ground_sets::lowest(left);
-        left = ground_sets::without_lowest(left, job);
+        let taken = ground_sets::take_lowest(left);
+        left = taken.rest;
+        let job = taken.member;
         let apart = kept_apart(job, valid, ground_sets::union(before[job], after[job]));
         let near = ground_sets::difference(ground_sets::without(others, job), apart);
         let new = detect_beside(side, before, after, job, near, earliest, latest, lengths);
@@ -130,8 +132,9 @@ fn last_end(side: Side, set: u64, times: &[i32; Board::JOBS], lengths: &[i32; Bo
     let mut last = Board::FIRST_MINUTE;
     let mut left = set;
     while left != 0 {
-        let k = ground_sets::lowest(left);
-        left = ground_sets::without_lowest(left, k);
+        let taken = ground_sets::take_lowest(left);
+        left = taken.rest;
+        let k = taken.member;
         last = ground_arithmetic::greater(last, end(side, times, lengths, k));
     }
     last
@@ -151,8 +154,9 @@ fn clashing(
     let mut found = 0;
     let mut left = set;
     while left != 0 {
-        let k = ground_sets::lowest(left);
-        left = ground_sets::without_lowest(left, k);
+        let taken = ground_sets::take_lowest(left);
+        left = taken.rest;
+        let k = taken.member;
         if 0 < ground_arithmetic::sum(limit, end(side, times, lengths, k)) {
             found = ground_sets::with(found, k);
         }
@@ -164,7 +168,7 @@ fn clashing(
 fn is_single(set: u64) -> bool
     requires { ⌜ set ≢ 0 ⌝ }
 {
-    ground_sets::without_lowest(set, ground_sets::lowest(set)) == 0
+    ground_sets::take_lowest(set).rest == 0
 }
 
 // The live jobs to which those that are due may get arcs. For one that is due all are tested; for many the last of their ends

@@ -72,8 +72,9 @@ fn joining_each<'a>(
     let mut found = 0;
     let mut left = set;
     while left != 0 {
-        let next = ground_sets::lowest(left);
-        left = ground_sets::without_lowest(left, next);
+        let taken = ground_sets::take_lowest(left);
+        left = taken.rest;
+        let next = taken.member;
         found = ground_sets::union(found, joining(job, next, beyond, opposite));
     }
     found

@@ -28,8 +28,9 @@ fn join(
     let missing = ground_sets::intersection(all, live);
     let mut left = missing;
     while left != 0 {
-        let to = ground_sets::lowest(left);
-        left = ground_sets::without_lowest(left, to);
+        let taken = ground_sets::take_lowest(left);
+        left = taken.rest;
+        let to = taken.member;
         link(before, after, from, to);
     }
     missing
@@ -49,8 +50,9 @@ fn join_through(
     let mut found = no_ends();
     let mut left = sources;
     while left != 0 {
-        let from = ground_sets::lowest(left);
-        left = ground_sets::without_lowest(left, from);
+        let taken = ground_sets::take_lowest(left);
+        left = taken.rest;
+        let from = taken.member;
         let new = join(before, after, from, through, live);
         found = all_ends(found, joined_at(from, new, before, after));
     }
@@ -69,8 +71,9 @@ pub fn join_arcs(
     let mut found = no_ends();
     let mut left = middles;
     while left != 0 {
-        let through = ground_sets::lowest(left);
-        left = ground_sets::without_lowest(left, through);
+        let taken = ground_sets::take_lowest(left);
+        left = taken.rest;
+        let through = taken.member;
         let sources = ground_sets::intersection(before[through], live);
         let new = join_through(before, after, sources, through, live);
         found = all_ends(found, new);

@@ -46,8 +46,9 @@ fn unpushed(set: u64, pushing: u64, beyond: &[u64; Board::JOBS]) -> u64 {
     let mut found = 0;
     let mut left = set;
     while left != 0 {
-        let k = ground_sets::lowest(left);
-        left = ground_sets::without_lowest(left, k);
+        let taken = ground_sets::take_lowest(left);
+        left = taken.rest;
+        let k = taken.member;
         if ground_sets::intersection(beyond[k], pushing) == 0 {
             found = ground_sets::with(found, k);
         }
@@ -219,8 +220,9 @@ pub fn push<'a>(
     let mut known = unknown();
     let mut left = set;
     while left != 0 {
-        let job = ground_sets::lowest(left);
-        left = ground_sets::without_lowest(left, job);
+        let taken = ground_sets::take_lowest(left);
+        left = taken.rest;
+        let job = taken.member;
         let leading = leading_to(side, job, known, times, lengths, beyond, opposite, valid);
         let step = push_job(side, job, leading, times, fixed, lengths, opposite, valid);
         known = lasting(leading, job);

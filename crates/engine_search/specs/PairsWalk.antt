@@ -6,10 +6,11 @@ use mathlib.Core.Logic.{_≢_}
 use mathlib.Core.Bool.{true}
 use mathlib.Core.Option.{Option, none, some}
 use Prim.Native.Nat.{ℕ, _<_, _^_}
+use native.Mathlib.Omega.{arith}
 use lib.IntN.{ℤ, pos, _+ℤ_}
 use lib.ListN.{getD}
 use Rattle.ground_sets.specs.Bit.{bit, difference}
-use Rattle.ground_sets.specs.BitLaws.{bit-difference}
+use Rattle.ground_sets.specs.BitLaws.{bit-difference, part-at-most}
 use Rattle.ground_sets.specs.Walk.{Left}
 use Rattle.ground_arithmetic.specs.Bools.{is-false, refuted}
 use Rattle.ground_arithmetic.specs.Time.{Moderate}
@@ -64,14 +65,14 @@ searched-with v P Q f (some _) h = h
 
 -- the rows that are left
 abbrev pub RowsLeft : View → ℕ → Type 0
-RowsLeft v = Left jobLimit (Live v) (RowSettled v)
+RowsLeft v = Left (Live v) (RowSettled v)
 
 -- the jobs that are left
 abbrev pub JobsSettled : View → Type 0
 JobsSettled v = (i : ℕ) → Live v i → JobSettled v i
 
 abbrev pub JobsLeft : View → ℕ → Type 0
-JobsLeft v = Left jobLimit (Live v) (JobSettled v)
+JobsLeft v = Left (Live v) (JobSettled v)
 
 module _ {b : Board} {lives valids : ℕ} {earliest latest lengths : List ℤ} {before after : List ℕ} (h : Read b lives valids earliest latest lengths before after)
     (width : lives < 2 ^ jobLimit) where
@@ -79,10 +80,9 @@ module _ {b : Board} {lives valids : ℕ} {earliest latest lengths : List ℤ} {
   live-bit x = retested (h .is-live x) (live-is (view b) x)
 
   -- at first all live jobs are left
-  pub all-left : (Q : ℕ → Type 0) → Left jobLimit (Live (view b)) Q lives
+  pub all-left : (Q : ℕ → Type 0) → Left (Live (view b)) Q lives
   all-left Q =
       record {
-        width = width;
         member = λ x e. live-bit x .yes e;
         done = λ x l e. absurd (refuted e (live-bit x .show l));
       }
@@ -91,7 +91,8 @@ module _ {b : Board} {lives valids : ℕ} {earliest latest lengths : List ℤ} {
   pub done-settled : {left done : ℕ} → JobsLeft (view b) left → done ≡ difference jobLimit lives left
       → (s : Side) (x : ℕ) → bit done x ≡ true → Settled (view b) s x
   done-settled {left} {done} jobs e s x member =
-      let visited = retested (ap (λ w. bit w x) e ∙ bit-difference jobLimit lives left x width (jobs .width)) (live-bit x and negated (holds (bit left x))) in
+      let fits : left < 2 ^ jobLimit = omega (arith, width, part-at-most left lives λ y m. live-bit y .show (jobs .member y m)) in
+      let visited = retested (ap (λ w. bit w x) e ∙ bit-difference jobLimit lives left x width fits) (live-bit x and negated (holds (bit left x))) in
       let (live, out) = visited .yes member in
       jobs .done x live (is-false (bit left x) out) .settled s
 

@@ -9,7 +9,7 @@ use native.Mathlib.Omega.{arith}
 use lib.IntN.{ℤ, pos, negℤ, _+ℤ_, _-ℤ_}
 use lib.ListN.{getD}
 use lib.Signed.{_≤ℤ_}
-use Rattle.ground_sets.specs.Bit.{bit, union, intersection, difference, without, Lowest}
+use Rattle.ground_sets.specs.Bit.{bit, union, intersection, difference, without, Takes}
 use Rattle.ground_sets.specs.BitLaws.{bit-zero, bit-union, bit-intersection, bit-difference, bit-without, without-lt, difference-lt, subset-yes, part-below}
 use Rattle.ground_sets.specs.Walk.{Left, taken-out}
 use Rattle.ground_arithmetic.specs.Bools.{refuted, is-true}
@@ -34,7 +34,7 @@ AllInTime latest lengths set end = (k : ℕ) → bit set k ≡ true → InTime l
 
 -- the jobs of the set that are left out end in time
 abbrev pub LateLeft : List ℤ → List ℤ → ℕ → ℤ → ℕ → Type 0
-LateLeft latest lengths set end = Left jobLimit (λ k. bit set k ≡ true) (InTime latest lengths end)
+LateLeft latest lengths set end = Left (λ k. bit set k ≡ true) (InTime latest lengths end)
 
 -- the members of w: jobs after i, where i or they are valid
 pub record KeptApart (i valids after w : ℕ) : Type 0 where
@@ -48,16 +48,16 @@ OrderKnown latest lengths i valids before after end k =
 
 abbrev pub OrderLeft : List ℤ → List ℤ → ℕ → ℕ → ℕ → ℕ → ℕ → ℤ → ℕ → Type 0
 OrderLeft latest lengths i lives valids before after end =
-    Left jobLimit (λ k. (bit lives k ≡ true) × (i ≢ k)) (OrderKnown latest lengths i valids before after end)
+    Left (λ k. (bit lives k ≡ true) × (i ≢ k)) (OrderKnown latest lengths i valids before after end)
 
 module _ (latest lengths : List ℤ) where
   -- one job more
-  pub in-time-lesser : (set left k : ℕ) (least : ℤ) → left < 2 ^ jobLimit → Lowest jobLimit left k
+  pub in-time-lesser : (set : ℕ) {left k rest : ℕ} (least : ℤ) → Takes jobLimit false left k rest
       → ((j : ℕ) → bit set j ≡ true → bit left j ≡ false → InTime latest lengths least j)
-      → (j : ℕ) → bit set j ≡ true → bit (without jobLimit left k) j ≡ false
+      → (j : ℕ) → bit set j ≡ true → bit rest j ≡ false
       → InTime latest lengths (lesser least (getD latest k (pos 0) -ℤ lengthAt lengths k)) j
-  in-time-lesser set left k least fits l before =
-      taken-out jobLimit left k fits (l .width) (InTime latest lengths next) (λ j. bit set j ≡ true)
+  in-time-lesser set {k = k} least taken before =
+      taken-out taken (InTime latest lengths next) (λ j. bit set j ≡ true)
       (λ j e out. let now = before j e out in
       omega (whole, now, lesser-left least gap, plus next (lengthAt lengths j), plus least (lengthAt lengths j)))
       (omega (whole, lesser-right least gap, plus next (lengthAt lengths k), plus (getD latest k (pos 0)) (negℤ (lengthAt lengths k)), minus (lengthAt lengths k)))
@@ -74,7 +74,6 @@ module _ (latest lengths : List ℤ) where
         → OrderLeft latest lengths i lives valids before after end 0
     none-ordered least l all =
         record {
-          width = omega arith;
           member = λ k e. absurd (refuted (bit-zero k) e);
           done = λ k (e, _) _. let now = all k e in inl (omega (whole, now, plus end (lengthAt lengths k), plus least (lengthAt lengths k)));
         }
@@ -85,7 +84,6 @@ module _ (latest lengths : List ℤ) where
         → OrderLeft latest lengths i lives valids before after end w
     late-ordered kept w fits place narrow apart left =
         record {
-          width = left .width;
           member = λ k e. tested k .yes (left .member k e) .0;
           done = λ k l out. go k l out (bit set k) refl;
         }
@@ -134,17 +132,20 @@ none-looked after set fits =
     }
 
 -- the least job k that is left is looked at
-module _ (after : List ℕ) (set left all k : ℕ) (p : Looked after set left all) (l : Lowest jobLimit left k) (narrow : union all (getD after k 0) < 2 ^ jobLimit) where
+module _ {after : List ℕ} {set left all k others : ℕ} (p : Looked after set left all) (taken : Takes jobLimit false left k others) (narrow : union all (getD after k 0) < 2 ^ jobLimit) where
   abbrev next : ℕ
   next = union all (getD after k 0)
 
   abbrev rest : ℕ
-  rest = difference jobLimit (without jobLimit left k) next
+  rest = difference jobLimit others next
+
+  fits : others < 2 ^ jobLimit
+  fits = omega (arith, taken .falls, p .width)
 
   still : (x : ℕ) → Decides (bit rest x) (((bit left x ≡ true) × (k ≢ x)) × (bit next x ≡ true → ⊥))
   still x =
-      retested (bit-difference jobLimit (without jobLimit left k) next x (without-lt jobLimit left k (p .width)) narrow)
-      (retested (bit-without jobLimit left k x (p .width) (l .width)) (holds (bit left x) and negated (eq k x)) and negated (holds (bit next x)))
+      retested (bit-difference jobLimit others next x fits narrow)
+      (retested (ap (λ w. bit w x) (taken .left) ∙ bit-without jobLimit left k x (p .width) (taken .width)) (holds (bit left x) and negated (eq k x)) and negated (holds (bit next x)))
 
   wider : (m : ℕ) → Inside after m all → Inside after m next
   wider m h c e = bit-union all (getD after k 0) c ∙ rw (h c e)
@@ -157,7 +158,7 @@ module _ (after : List ℕ) (set left all k : ℕ) (p : Looked after set left al
 
   reached : (x : ℕ) → bit next x ≡ true → Via after set next x
   reached x e =
-      ⊎-elim (λ o. more x (p .via x o)) (λ n. (k, p .inside k (l .member), n, now))
+      ⊎-elim (λ o. more x (p .via x o)) (λ n. (k, p .inside k (taken .member), n, now))
       (or-parts (bit all x) (bit (getD after k 0) x) (sym (bit-union all (getD after k 0) x) ∙ e))
 
   passed : (x : ℕ) → bit set x ≡ true → bit rest x ≡ false → (t : Bool) → bit left x ≡ t → Dec (k ≡ x) → Inside after x next ⊎ Via after set next x
@@ -168,14 +169,14 @@ module _ (after : List ℕ) (set left all k : ℕ) (p : Looked after set left al
   pub look : Looked after set rest next
   look =
       record {
-        width = difference-lt jobLimit _ _ (without-lt jobLimit left k (p .width));
+        width = difference-lt jobLimit _ _ fits;
         inside = λ x e. p .inside x (still x .yes e .0 .0);
         via = reached;
         done = λ x e out. passed x e out (bit left x) refl (ℕ-discrete k x);
       }
 
   pub look-falls : rest < left
-  look-falls = part-below rest left k (λ x e. still x .yes e .0 .0) (l .member) (λ e. still k .yes e .0 .1 refl)
+  look-falls = part-below rest left k (λ x e. still x .yes e .0 .0) (taken .member) (λ e. still k .yes e .0 .1 refl)
 
 -- there are arcs from i to all jobs after m
 abbrev pub Joins : List ℕ → ℕ → ℕ → ℕ → Type 0
@@ -187,7 +188,7 @@ JoinKnown afters i valids after k =
     Joins afters i after k ⊎ ((m : ℕ) × (bit after m ≡ true) × (bit valids m ≡ true) × (bit (getD afters m 0) k ≡ true) × Joins afters i after m)
 
 abbrev pub JoinLeft : List ℕ → ℕ → ℕ → ℕ → ℕ → Type 0
-JoinLeft afters i valids after = Left jobLimit (λ k. (bit after k ≡ true) × (bit valids k ≡ true)) (JoinKnown afters i valids after)
+JoinLeft afters i valids after = Left (λ k. (bit after k ≡ true) × (bit valids k ≡ true)) (JoinKnown afters i valids after)
 
 module _ (afters : List ℕ) (i valids after through : ℕ) (is : through ≡ intersection after valids) where
   through-bit : (k : ℕ) → Decides (bit through k) ((bit after k ≡ true) × (bit valids k ≡ true))
@@ -197,7 +198,6 @@ module _ (afters : List ℕ) (i valids after through : ℕ) (is : through ≡ in
       → difference jobLimit (without jobLimit onward i) after ≡ 0 → JoinLeft afters i valids after 0
   none-joined onward fits narrow place reaches empty =
       record {
-        width = omega arith;
         member = λ k e. absurd (refuted (bit-zero k) e);
         done = λ k l out. ⊎-elim (λ h. inl (joins k h)) (λ (m, t, e, h). let (a, v) = through-bit m .yes t in inr (m, a, v, e, joins m h)) (reaches k (through-bit k .show l));
       }
@@ -207,10 +207,9 @@ module _ (afters : List ℕ) (i valids after through : ℕ) (is : through ≡ in
           subset-yes jobLimit (without jobLimit onward i) after (without-lt jobLimit onward i fits) narrow empty c
           (retested (bit-without jobLimit onward i c fits place) (holds (bit onward c) and negated (eq i c)) .show (h c e, ne))
 
-  pub all-joined : through < 2 ^ jobLimit → JoinLeft afters i valids after through
-  all-joined fits =
+  pub all-joined : JoinLeft afters i valids after through
+  all-joined =
       record {
-        width = fits;
         member = λ k e. through-bit k .yes e;
         done = λ k l out. absurd (refuted out (through-bit k .show l));
       }

@@ -3,7 +3,7 @@ use mathlib.Core.Path.{_≡_, sym, ap, _∙_}
 use mathlib.Core.Logic.{_≢_, _⊎_, inl, inr, ⊎-elim}
 use mathlib.Core.Bool.{Bool, true, _&&_, _||_, or-true}
 use mathlib.Core.List.{List}
-use Prim.Native.Nat.{ℕ, _<_, _^_}
+use Prim.Native.Nat.{ℕ}
 use lib.IntN.{ℤ, pos, _+ℤ_}
 use lib.ListN.{getD}
 use lib.Signed.{ltZ, _<ℤ_}
@@ -13,7 +13,7 @@ use Rattle.ground_arithmetic.specs.Bools.{refuted, is-false}
 use Rattle.ground_arithmetic.specs.Linear.{whole}
 use Rattle.paper_board.specs.declared.Board.{Board}
 use Rattle.paper_board.specs.Paper.View.{View, Live, Valid, Arc, view}
-use Rattle.paper_board.specs.Paper.Limits.{Within, jobLimit}
+use Rattle.paper_board.specs.Paper.Limits.{Within}
 use Rattle.paper_board.specs.Paper.Rules.{E, D, L}
 use Rattle.paper_board.specs.Paper.Tests.{live, valid}
 use Rattle.paper_board.specs.Tests.Decides.{Decides, retested, _and_, holds, live-is, valid-is}
@@ -112,10 +112,9 @@ module _ (i lives valids before after : ℕ) (end : ℤ) (latest lengths : List 
   in-through : (k : ℕ) → bit through k ≡ true → bit all k ≡ true
   in-through k e = all-bit k ∙ rw (e, or-true (bit late k || bit both k))
 
-  pub row-left : all < 2 ^ jobLimit → RowLeft i lives valids before after end latest lengths afters all
-  row-left narrow b h =
+  pub row-left : RowLeft i lives valids before after end latest lengths afters all
+  row-left b h =
       record {
-        width = narrow;
         member = λ k e. ⊎-elim (λ m. ⊎-elim (from-late k) (from-both k) (or-parts _ _ m)) (from-through k) (or-parts _ _ (sym (all-bit k) ∙ e));
         done = λ k l out.
             record {

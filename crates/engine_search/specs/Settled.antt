@@ -15,7 +15,7 @@ use Rattle.ground_sets.specs.Walk.{Left}
 use Rattle.ground_arithmetic.specs.Linear.{whole, plus, minus}
 use Rattle.paper_board.specs.declared.Board.{Board}
 use Rattle.paper_board.specs.Paper.View.{View, Live, Valid, Arc, Side, early, late, bound, Beyond, view}
-use Rattle.paper_board.specs.Paper.Limits.{Within, jobLimit}
+use Rattle.paper_board.specs.Paper.Limits.{Within}
 use Rattle.paper_board.specs.Paper.Rules.{E, D, L}
 use Rattle.paper_board.specs.Inference.Infers.{Obeys}
 use Rattle.engine_energy.specs.Single.{total-single}
@@ -43,7 +43,7 @@ module _ (v : View) where
   PairsSettled = (i : ℕ) → Live v i → RowSettled i
 
   abbrev pub PairsLeft : ℕ → ℕ → Type 0
-  PairsLeft i = Left jobLimit (λ k. Live v k × (i ≢ k)) (PairSettled i)
+  PairsLeft i = Left (λ k. Live v k × (i ≢ k)) (PairSettled i)
 
 -- ---- R1
 

@@ -50,8 +50,9 @@ fn find_pair<'a>(
     let mut found = Pair::None;
     let mut rows = live;
     'pairs: while rows != 0 {
-        let i = ground_sets::lowest(rows);
-        rows = ground_sets::without_lowest(rows, i);
+        let taken = ground_sets::take_lowest(rows);
+        rows = taken.rest;
+        let i = taken.member;
         let end = earliest_end(i, earliest, lengths);
         let into = before[i];
         let out = after[i];
@@ -68,8 +69,9 @@ fn find_pair<'a>(
             after,
         );
         while others != 0 {
-            let k = ground_sets::lowest(others);
-            others = ground_sets::without_lowest(others, k);
+            let taken = ground_sets::take_lowest(others);
+            others = taken.rest;
+            let k = taken.member;
             let late = ends_late(k, end, latest, lengths);
             if applies(i, k, valid, out, into, after[k], late) {
                 found = Pair::At(i, k);
@@ -120,9 +122,10 @@ fn at_jobs<'a>(
     let mut early = 0;
     let mut late = 0;
     while left != 0 {
-        let i = ground_sets::lowest(left);
+        let taken = ground_sets::take_lowest(left);
+        let i = taken.member;
         let done = ground_sets::difference(live, left);
-        left = ground_sets::without_lowest(left, i);
+        left = taken.rest;
         early = representative(Side::Early, i, early, done, earliest, before, valid);
         late = representative(Side::Late, i, late, done, latest, after, valid);
         let single = at_job(

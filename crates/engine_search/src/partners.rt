@@ -22,8 +22,9 @@ pub fn latest_start(set: u64, latest: &[i32; Board::JOBS], lengths: &[i32; Board
     let mut least = Board::LAST_MINUTE;
     let mut left = set;
     while left != 0 {
-        let k = ground_sets::lowest(left);
-        left = ground_sets::without_lowest(left, k);
+        let taken = ground_sets::take_lowest(left);
+        left = taken.rest;
+        let k = taken.member;
         least = ground_arithmetic::lesser(least, ground_arithmetic::gap(latest[k], lengths[k]));
     }
     least
@@ -53,7 +54,7 @@ fn late(set: u64, end: i32, latest: &[i32; Board::JOBS], lengths: &[i32; Board::
         if ends_late(k, end, latest, lengths) {
             return left;
         }
-        left = ground_sets::without_lowest(left, k);
+        left = ground_sets::take_lowest(left).rest;
     }
     left
 }
@@ -114,9 +115,10 @@ fn reach(set: u64, after: &[u64; Board::JOBS]) -> u64
     let mut all = 0;
     let mut left = set;
     while left != 0 {
-        let k = ground_sets::lowest(left);
+        let taken = ground_sets::take_lowest(left);
+        let k = taken.member;
         all = ground_sets::union(all, after[k]);
-        left = ground_sets::difference(ground_sets::without_lowest(left, k), all);
+        left = ground_sets::difference(taken.rest, all);
     }
     all
 }

@@ -2,6 +2,7 @@
 -- take the width n that the sets fit. What these definitions mean for the members is in BitLaws. Assumes nothing.
 use Prim.Native.Nat.{ℕ, zero, suc, _+_, _-_, _*_, _/_, _%_, _^_, _<_}
 use mathlib.Core.Path.{_≡_}
+use mathlib.Core.Logic.{_≢_}
 use mathlib.Core.Bool.{Bool, true, false, cond}
 use lib.Bits.{bitAnd, bitOr}
 use lib.Dec.{eqb}
@@ -53,3 +54,14 @@ pub record Highest (n w k : ℕ) : Type 0 where
 unfoldable pub Next : ℕ → Bool → ℕ → ℕ → Type 0
 Next n false w k = Lowest n w k
 Next n true w k = Highest n w k
+
+-- the next job k of a walk over the set w, taken out of it, and the rest: what is left is in the set, and less than it, so that a walk ends
+pub record Takes (n : ℕ) (downward : Bool) (w k rest : ℕ) : Type 0 where
+  pub next : Next n downward w k
+  pub width : k < n
+  pub member : bit w k ≡ true
+  pub left : rest ≡ without n w k
+  pub out : bit rest k ≡ false
+  pub others : (j : ℕ) → j ≢ k → bit rest j ≡ bit w j
+  pub inside : (j : ℕ) → bit rest j ≡ true → bit w j ≡ true
+  pub falls : rest < w

@@ -5,14 +5,14 @@ use Prim.Native.Nat.{ℕ, zero, suc, _-_, _/_, _%_, _^_, _<_}
 use mathlib.Core.Bool.{Bool, true, false, not, _&&_, and-true, and-false, and-self, true≢false}
 use mathlib.Core.Path.{_≡_, refl, sym, ap, _∙_, subst⁻¹}
 use mathlib.Core.Logic.{_≢_}
-use native.Mathlib.Decide.{ℕ-discrete}
+use native.Mathlib.Decide.{decLt, ℕ-discrete}
 use native.Mathlib.Nat.{pow-suc}
 use native.Mathlib.Omega.{arith}
 use lib.Count.{leadingZeros, leading-top, trailingZeros, under}
 use lib.Dec.{eqb, eqb·zero-suc, eqb·suc-suc}
 use borrow.Author.Tests.{eq-eqb, ne-eqb}
-use Rattle.ground_sets.specs.Bit.{bit, intersection, without, Lowest, Highest, Next}
-use Rattle.ground_sets.specs.BitLaws.{bit-low, bit-odd, bit-even, bit-half, bit-high, bit-top, bit-zero, bit-ext, bit-intersection, bit-without, without-lt, part-below}
+use Rattle.ground_sets.specs.Bit.{bit, intersection, without, Lowest, Highest, Next, Takes}
+use Rattle.ground_sets.specs.BitLaws.{bit-low, bit-odd, bit-even, bit-half, bit-high, bit-top, bit-zero, bit-ext, bit-intersection, bit-without, part-below}
 
 pub trailing-lowest : (n w : ℕ) → w ≢ 0 → w < 2 ^ n → Lowest n w (trailingZeros n w)
 unfolding trailingZeros
@@ -45,12 +45,12 @@ leading-highest n w h l =
     let place : n - 1 - leadingZeros n w ≡ j = omega (arith, zeros) in
     subst⁻¹ (Highest n w) place (record { width = omega (arith, zeros); member = bit-top w j low high; greatest = λ k b. bit-high (suc j) w k high b })
 
-pub next-width : (n : ℕ) (downward : Bool) (w k : ℕ) → Next n downward w k → k < n
+next-width : (n : ℕ) (downward : Bool) (w k : ℕ) → Next n downward w k → k < n
 unfolding Next
 next-width n false w k at = at .width
 next-width n true w k at = at .width
 
-pub next-member : (n : ℕ) (downward : Bool) (w k : ℕ) → Next n downward w k → bit w k ≡ true
+next-member : (n : ℕ) (downward : Bool) (w k : ℕ) → Next n downward w k → bit w k ≡ true
 unfolding Next
 next-member n false w k at = at .member
 next-member n true w k at = at .member
@@ -88,21 +88,8 @@ module _ (n w k : ℕ) (fits : w < 2 ^ n) (width : k < n) where
       go (no ne) = sym (without-other j ne) ∙ e
 
   -- so the word gets smaller, and a walk ends
-  pub without-falls : bit w k ≡ true → without n w k < w
+  without-falls : bit w k ≡ true → without n w k < w
   without-falls e = part-below (without n w k) w k without-inside e λ still. true≢false (sym still ∙ without-self)
-
-  -- what was shown at each number with A taken out so far, and at this one, is shown at each taken out now
-  pub taken-out : (P A : ℕ → Type 0) → ((j : ℕ) → A j → bit w j ≡ false → P j) → P k
-      → (j : ℕ) → A j → bit (without n w k) j ≡ false → P j
-  taken-out P A before now j has-it out = go (ℕ-discrete j k)
-    where
-      go : Dec (j ≡ k) → P j
-      go (yes e) = subst⁻¹ P e now
-      go (no ne) = before j has-it (sym (without-other j ne) ∙ out)
-
--- a word with a member is not 0
-pub lowest-some : {n w k : ℕ} → Lowest n w k → w ≢ 0
-lowest-some {k = k} low none = true≢false (sym (low .member) ∙ ap (λ (x : ℕ). bit x k) none ∙ bit-zero k)
 
 -- a word and one less than it share all but the least member
 pub less-without : (n w k : ℕ) → w < 2 ^ n → Lowest n w k → intersection w (w - 1) ≡ without n w k
@@ -110,23 +97,55 @@ less-without n w k fits low =
     bit-ext (intersection w (w - 1)) (without n w k) λ j.
     bit-intersection w (w - 1) j ∙ less-bit k w (low .member) (low .least) j ∙ sym (bit-without n w k j fits (low .width))
 
--- a walk that takes out the least member ends
-pub walk-falls : {n w k next : ℕ} → w < 2 ^ n → Lowest n w k → next ≡ without n w k → next < w
-walk-falls {n} {w} {k} fits l e = rw e (without-falls n w k fits (l .width) (l .member))
+-- the next job of a walk taken out
+pub takes : (n : ℕ) (downward : Bool) (w k rest : ℕ) → w < 2 ^ n → Next n downward w k → rest ≡ without n w k → Takes n downward w k rest
+takes n downward w k rest fits next e =
+    let width = next-width n downward w k next in
+    let member = next-member n downward w k next in
+    record {
+      next = next;
+      width = width;
+      member = member;
+      left = e;
+      out = rw e (without-self n w k fits width);
+      others = rw e (without-other n w k fits width);
+      inside = rw e (without-inside n w k fits width);
+      falls = rw e (without-falls n w k fits width member);
+    }
+
+-- a set has one least member, so it is the one that is taken
+pub lowest-taken : {n w j k rest : ℕ} → Lowest n w j → Takes n false w k rest → Takes n false w j rest
+unfolding Next
+lowest-taken {n} {w} {j} {k} {rest} low taken = subst⁻¹ (λ x. Takes n false w x rest) (same (decLt j k) (decLt k j)) taken
+  where
+    above : (x y : ℕ) → Lowest n w x → Lowest n w y → x < y → ⊥
+    above x y a b less =
+        let out = b .least x less in
+        let has = a .member in
+        let clash : _≡_ {A = ℕ} 0 1 = cc in
+        omega arith
+
+    same : Dec (j < k) → Dec (k < j) → j ≡ k
+    same (yes less) _ = absurd (above j k low (taken .next) less)
+    same (no _) (yes less) = absurd (above k j (taken .next) low less)
+    same (no a) (no b) = omega (arith, a, b)
+
+-- what was shown at each number with A taken out so far, and at this one, is shown at each taken out now
+pub taken-out : {n : ℕ} {downward : Bool} {w k rest : ℕ} → Takes n downward w k rest → (P A : ℕ → Type 0)
+    → ((j : ℕ) → A j → bit w j ≡ false → P j) → P k → (j : ℕ) → A j → bit rest j ≡ false → P j
+taken-out {k = k} taken P A before now j has-it out = go (ℕ-discrete j k)
+  where
+    go : Dec (j ≡ k) → P j
+    go (yes e) = subst⁻¹ P e now
+    go (no ne) = before j has-it (sym (taken .others j ne) ∙ out)
 
 -- A walk over the numbers that have P: those that are left to be visited have it, and at all the others Q has been shown.
-pub record Left (n : ℕ) (P Q : ℕ → Type 0) (left : ℕ) : Type 0 where
-  pub width : left < 2 ^ n
+pub record Left (P Q : ℕ → Type 0) (left : ℕ) : Type 0 where
   pub member : (x : ℕ) → bit left x ≡ true → P x
   pub done : (x : ℕ) → P x → bit left x ≡ false → Q x
 
-pub visited : (n : ℕ) (P Q : ℕ → Type 0) (left k : ℕ) → Left n P Q left → Lowest n left k → Q k → Left n P Q (without n left k)
-visited n P Q left k h low q =
-    record {
-      width = without-lt n left k (h .width);
-      member = λ x e. h .member x (without-inside n left k (h .width) (low .width) x e);
-      done = taken-out n left k (h .width) (low .width) Q P (h .done) q;
-    }
+pub visited : {n : ℕ} {downward : Bool} {P Q : ℕ → Type 0} {left k rest : ℕ} → Left P Q left → Takes n downward left k rest → Q k → Left P Q rest
+visited {P = P} {Q = Q} h taken q = record { member = λ x e. h .member x (taken .inside x e); done = taken-out taken Q P (h .done) q }
 
-pub none-left : (n : ℕ) (P Q : ℕ → Type 0) → Left n P Q 0 → (x : ℕ) → P x → Q x
-none-left n P Q h x p = h .done x p (bit-zero x)
+pub none-left : {P Q : ℕ → Type 0} → Left P Q 0 → (x : ℕ) → P x → Q x
+none-left h x p = h .done x p (bit-zero x)

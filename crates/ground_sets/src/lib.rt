@@ -1,5 +1,6 @@
 // Sets of at most 64 jobs, each set one word with bit k for job k: test, union and clearing by shift and mask, and walks from either end.
 ghost use mathlib.Core.Path.{_≡_};
+ghost use mathlib.Core.Bool.{false};
 ghost use mathlib.Core.Logic.{_≢_};
 ghost use Prim.Native.Nat.{_<_};
 ghost use Rattle.ground_sets.specs.Bit as sets;
@@ -65,32 +66,34 @@ pub fn highest(w: u64) -> usize
     63 - u64::leading_zeros(w) as usize
 }
 
-// The set w with its least job k taken out. The code has no need of k, so that a walk goes on before it is known; the contract has.
-pub fn without_lowest(w: u64, k: usize) -> u64
-    requires { ⌜ sets.Lowest sets.width w k ⌝ }
-    ensures { λ r. ⌜ r ≡ sets.without sets.width w k ⌝ }
-{
-    w & (w - 1)
+// A job taken out of a set, and the jobs that are left.
+pub struct Taken {
+    pub member: usize,
+    pub rest: u64,
 }
 
-// The next job of a walk over a set that has one: its least or, on a walk downward, its greatest.
-pub fn next(w: u64, downward: bool) -> usize
+// The least job of a set that has one, taken out. The code has no need of the job to tell the rest, so that a walk goes on before it is known.
+pub fn take_lowest(w: u64) -> Taken
     requires { ⌜ w ≢ 0 ⌝ }
-    ensures { λ r. ⌜ sets.Next sets.width downward w r ⌝ }
+    ensures { λ r. ⌜ sets.Takes sets.width false w (r .member) (r .rest) ⌝ }
 {
-    if downward {
-        return highest(w);
+    Taken {
+        member: lowest(w),
+        rest: w & (w - 1),
     }
-    lowest(w)
 }
 
-// The set w with the next job k of such a walk taken out.
-pub fn without_next(w: u64, k: usize, downward: bool) -> u64
-    requires { ⌜ sets.Next sets.width downward w k ⌝ }
-    ensures { λ r. ⌜ r ≡ sets.without sets.width w k ⌝ }
+// The next job of a walk over a set that has one, taken out: its least or, on a walk downward, its greatest.
+pub fn take_next(w: u64, downward: bool) -> Taken
+    requires { ⌜ w ≢ 0 ⌝ }
+    ensures { λ r. ⌜ sets.Takes sets.width downward w (r .member) (r .rest) ⌝ }
 {
     if downward {
-        return without(w, k);
+        let member = highest(w);
+        return Taken {
+            member,
+            rest: without(w, member),
+        };
     }
-    without_lowest(w, k)
+    take_lowest(w)
 }

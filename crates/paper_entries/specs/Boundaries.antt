@@ -1,5 +1,5 @@
 -- The checks 1 to 7 of the table, each from both sides of its limit, and their order where an entry meets several: which
--- refusal `call_checks` gives, as one table that is computed as a whole.
+-- refusal `gate` gives, as one table that is computed as a whole.
 use mathlib.Core.Path.{_≡_, refl}
 use mathlib.Core.Bool.{Bool, true, false, _&&_}
 use mathlib.Core.List.{List, [], _∷_}

@@ -1,4 +1,4 @@
--- `call_checks` line by line: what the first line of a list of checks decides, and what a list without refusal says of it.
+-- `gate` line by line: what the first line of a list of checks decides, and what a list without refusal says of it.
 use mathlib.Core.Path.{_≡_, refl, _∙_}
 use mathlib.Core.Bool.{Bool, true, false}
 use mathlib.Core.List.{List, [], _∷_}

@@ -1,4 +1,4 @@
--- `call_enter::enter` meets its contract: its checks decide the call, or what is concluded from the entry. Assumes nothing.
+-- `call_enter::enter` meets its contract: its checks decide the call, or what is decided from the entry. Assumes nothing.
 use mathlib.Core.Path.{_≡_, sym, _∙_}
 use mathlib.Core.Option.{none}
 use borrow.Author.Needs.{needs}
@@ -13,8 +13,8 @@ use Rattle.call_enter.proofs.enter.Tie as tie
 let-pass : (c : tie.After-enum-told) → let a = c .before .before .before .args in none ≡ gate (checks (a .board .jobs) (entryOf (a .entry)))
 let-pass c = rw (c .enum-told .given .1) at (c .before .before .entry-gate .ensures)
 
-conclude-requires : tie.Need-conclude-requires
-conclude-requires c κs =
+decide-requires : tie.Need-decide-requires
+decide-requires c κs =
     let told = c .before .before in
     let at = told .before .before .before in
     rw (c .before .stated-by .ensures) (at .pre, stated-admissible (at .args .board .jobs) (entryOf (at .args .entry)) (sym (let-pass told)))
@@ -29,7 +29,7 @@ returns-2 c =
     let told = c .before .before .before in
     let accepted = c .before .acceptance .ensures in
     let stated = c .before .before .stated-by .ensures in
-    (rw (accepted, stated) at (c .conclude .ensures)) ∙ concluded-enter _ _ (told .before .before .before .pre) (let-pass told)
+    (rw (accepted, stated) at (c .decide .ensures)) ∙ concluded-enter _ _ (told .before .before .before .pre) (let-pass told)
 
 pub enter-spec : {M : Type 1} → statement M
 enter-spec =
@@ -41,6 +41,6 @@ enter-spec =
     (λ c. search needs)
     (λ c κs. record { jobs = c .before .before .before .args .board .jobs; unmet = sym (let-pass c) })
     (λ c κs. search needs)
-    conclude-requires
+    decide-requires
     returns
     returns-2)

@@ -57,29 +57,29 @@ went-back c =
     (c .before .if1 .taken) _ (omega (arith, deeper))
 
 -- the way from a try back to the head of the loop
-abbrev head : tie.After-lowest Inv-loop μ-loop → tie.In-loop Inv-loop μ-loop
+abbrev head : tie.After-take-lowest Inv-loop μ-loop → tie.In-loop Inv-loop μ-loop
 head c = c .before .before .before
 
-abbrev picked : tie.After-sum Inv-loop μ-loop → tie.After-lowest Inv-loop μ-loop
-picked c = c .before .before .before .before .before
+abbrev picked : tie.After-sum Inv-loop μ-loop → tie.After-take-lowest Inv-loop μ-loop
+picked c = c .before .before .before .before
 
 -- when the job would start
 start-read : (c : tie.After-greater Inv-loop μ-loop)
-    → let n = c .before .before .before in
+    → let n = c .before .before in
     let l = head n .before .loop in
     let b = head n .before .before .args .t1 in
-    c .greater .result ≡ greater (E (view b) (n .lowest .result)) (toZ w32 (l .free))
+    c .greater .result ≡ greater (E (view b) (n .take-lowest .result .member)) (toZ w32 (l .free))
 start-read c =
-    let n = c .before .before .before in
+    let n = c .before .before in
     let start = head n .before .before in
-    let r = ranges (start .args .t1) (start .pre .0) (n .lowest .result) in
+    let r = ranges (start .args .t1) (start .pre .0) (n .take-lowest .result .member) in
     simp (toZ-ofZ, time-fits (r .earliest)) at (c .greater .ensures)
 
 start-time : (c : tie.After-greater Inv-loop μ-loop) → IsTime (c .greater .result)
 start-time c =
-    let n = c .before .before .before in
+    let n = c .before .before in
     let start = head n .before .before in
-    let r = ranges (start .args .t1) (start .pre .0) (n .lowest .result) in
+    let r = ranges (start .args .t1) (start .pre .0) (n .take-lowest .result .member) in
     rw (start-read c) (greater-time (r .earliest) (held (head n) .dock .time))
 
 -- when it would end
@@ -87,12 +87,12 @@ finish-is : (c : tie.After-sum Inv-loop μ-loop)
     → let n = picked c in
     let l = head n .before .loop in
     let b = head n .before .before .args .t1 in
-    c .sum .result ≡ startAfter (view b) (stack (at (l .jobs)) (l .depth)) (n .lowest .result) +ℤ L (view b) (n .lowest .result)
+    c .sum .result ≡ startAfter (view b) (stack (at (l .jobs)) (l .depth)) (n .take-lowest .result .member) +ℤ L (view b) (n .take-lowest .result .member)
 finish-is c =
     let n = picked c in
     let start = head n .before .before in
     let b = start .args .t1 in
-    let j = n .lowest .result in
+    let j = n .take-lowest .result .member in
     let g = c .before .before in
     let starts = start-read g ∙ sym (held (head n) .dock .start j) in
     simp (toZ-ofZ, time-fits (start-time g), length-fits (lengths-within b (start .pre .0)) j) at (c .sum .ensures)
@@ -104,14 +104,14 @@ tested : (c : tie.After-places Inv-loop μ-loop)
     let l = head n .before .loop in
     let b = head n .before .before .args .t1 in
     let ps = stack (at (l .jobs)) (l .depth) in
-    c .places .result ≡ (ready (view b) (order b) ps (n .lowest .result) && inTime (view b) ps (n .lowest .result))
+    c .places .result ≡ (ready (view b) (order b) ps (n .take-lowest .result .member) && inTime (view b) ps (n .take-lowest .result .member))
 tested c =
     let e = c .before .before .before in
     let n = picked e in
     let start = head n .before .before in
     let b = start .args .t1 in
     let s = held (head n) in
-    let j = n .lowest .result in
+    let j = n .take-lowest .result .member in
     let ends : SFits w32 (e .sum .result) = record { sfits = e .sum .ok } in
     simp (toZ-ofZ, ends, time-fits (ranges b (start .pre .0) j .latest)) at (c .places .ensures)
     ∙ try-test b (start .pre .0) _ j _ _ (s .waiting) (finish-is e)
@@ -122,16 +122,16 @@ put-in : (c : tie.After-places Inv-loop μ-loop) → c .places .result ≡ true
     let n = picked e in
     let l = head n .before .loop in
     let a = head n .before .before .args in
-    let j = n .lowest .result in
+    let j = n .take-lowest .result .member in
     let w = without width (l .unplaced) j in
-    State (a .t1) (set (l .jobs) (l .depth) j) (set (l .lefts) (l .depth) (without width (l .left) j)) (set (l .frees) (l .depth) (toZ w32 (l .free)))
+    State (a .t1) (set (l .jobs) (l .depth) j) (set (l .lefts) (l .depth) (n .take-lowest .result .rest)) (set (l .frees) (l .depth) (toZ w32 (l .free)))
     (l .depth + 1) w w (e .sum .result) (l .tries + 1) (a .budget)
 put-in c holds =
     let e = c .before .before .before in
     let n = picked e in
     let s = head n in
     let more = n .before .if3 .left in
-    job-placed _ (s .before .before .pre .0) _ _ _ _ _ _ _ _ _ (held s) (s .loop-test .taken) _ (n .lowest .ensures)
+    job-placed _ (s .before .before .pre .0) _ _ _ _ _ _ _ _ _ (held s) (s .loop-test .taken) (n .take-lowest .ensures)
     (omega (arith, more, held s .affordable)) _ (finish-is e) (depth-room s) (sym (tested c) ∙ holds)
 
 loop-holds : tie.Need-loop-holds Inv-loop μ-loop
@@ -197,100 +197,96 @@ returns-2 c =
 add-tries : tie.Need-add-tries Inv-loop μ-loop
 add-tries c = let more = c .if3 .left in record { fits = omega (arith, more, held (c .before .before) .affordable, c .before .before .before .before .fits .budget .fits) }
 
-lowest-requires : tie.Need-lowest-requires Inv-loop μ-loop
-lowest-requires c κs = c .before .if1 .left
-
-without-lowest-requires : tie.Need-without-lowest-requires Inv-loop μ-loop
-without-lowest-requires c κs = c .lowest .ensures
+take-lowest-requires : tie.Need-take-lowest-requires Inv-loop μ-loop
+take-lowest-requires c κs = c .before .if1 .left
 
 mul-greater : tie.Need-mul-greater Inv-loop μ-loop
-mul-greater c = let j = c .before .lowest .ensures .width in record { fits = omega (arith, j) }
+mul-greater c = let j = c .take-lowest .ensures .width in record { fits = omega (arith, j) }
 
 element-copy-out-greater : tie.Need-element-copy-out-greater Inv-loop μ-loop
-element-copy-out-greater c = c .before .lowest .ensures .width
+element-copy-out-greater c = c .take-lowest .ensures .width
 
 greater-requires : tie.Need-greater-requires Inv-loop μ-loop
 greater-requires c κs = tt
 
 mul-sum : tie.Need-mul-sum Inv-loop μ-loop
-mul-sum c = let j = c .before .before .before .lowest .ensures .width in record { fits = omega (arith, j) }
+mul-sum c = let j = c .before .before .take-lowest .ensures .width in record { fits = omega (arith, j) }
 
 element-copy-out-sum : tie.Need-element-copy-out-sum Inv-loop μ-loop
-element-copy-out-sum c = c .before .before .before .lowest .ensures .width
+element-copy-out-sum c = c .before .before .take-lowest .ensures .width
 
 sum-requires : tie.Need-sum-requires Inv-loop μ-loop
 sum-requires c κs =
-    let n = c .before .before .before .before in
+    let n = c .before .before .before in
     let start = head n .before .before in
     let b = start .args .t1 in
-    let r = ranges b (start .pre .0) (n .lowest .result) in
+    let r = ranges b (start .pre .0) (n .take-lowest .result .member) in
     let t = start-time (c .before) in
-    simp (toZ-ofZ, time-fits t, length-fits (lengths-within b (start .pre .0)) (n .lowest .result)) (time-moderate t, length-moderate r)
+    simp (toZ-ofZ, time-fits t, length-fits (lengths-within b (start .pre .0)) (n .take-lowest .result .member)) (time-moderate t, length-moderate r)
 
 mul-places : tie.Need-mul-places Inv-loop μ-loop
-mul-places c = let j = c .before .before .before .before .before .lowest .ensures .width in record { fits = omega (arith, j) }
+mul-places c = let j = c .before .before .before .before .take-lowest .ensures .width in record { fits = omega (arith, j) }
 
 element-copy-out-places : tie.Need-element-copy-out-places Inv-loop μ-loop
-element-copy-out-places c = c .before .before .before .before .before .lowest .ensures .width
+element-copy-out-places c = c .before .before .before .before .take-lowest .ensures .width
 
 mul-places-2 : tie.Need-mul-places-2 Inv-loop μ-loop
-mul-places-2 c = let j = c .before .before .before .before .before .before .lowest .ensures .width in record { fits = omega (arith, j) }
+mul-places-2 c = let j = c .before .before .before .before .before .take-lowest .ensures .width in record { fits = omega (arith, j) }
 
 element-copy-out-places-2 : tie.Need-element-copy-out-places-2 Inv-loop μ-loop
-element-copy-out-places-2 c = c .before .before .before .before .before .before .lowest .ensures .width
+element-copy-out-places-2 c = c .before .before .before .before .before .take-lowest .ensures .width
 
 places-requires : tie.Need-places-requires Inv-loop μ-loop
 places-requires c κs = tt
 
 mul-jobs : tie.Need-mul-jobs Inv-loop μ-loop
-mul-jobs c = record { fits = omega (arith, depth-room (c .before .before .before .before .before .before .before .before .before .before .before .before)) }
+mul-jobs c = record { fits = omega (arith, depth-room (c .before .before .before .before .before .before .before .before .before .before .before)) }
 
 array-write-jobs : tie.Need-array-write-jobs Inv-loop μ-loop
-array-write-jobs c = depth-room (c .before .before .before .before .before .before .before .before .before .before .before .before)
+array-write-jobs c = depth-room (c .before .before .before .before .before .before .before .before .before .before .before)
 
 mul-lefts : tie.Need-mul-lefts Inv-loop μ-loop
-mul-lefts c = record { fits = omega (arith, depth-room (c .before .before .before .before .before .before .before .before .before .before .before .before)) }
+mul-lefts c = record { fits = omega (arith, depth-room (c .before .before .before .before .before .before .before .before .before .before .before)) }
 
 array-write-lefts : tie.Need-array-write-lefts Inv-loop μ-loop
-array-write-lefts c = depth-room (c .before .before .before .before .before .before .before .before .before .before .before .before)
+array-write-lefts c = depth-room (c .before .before .before .before .before .before .before .before .before .before .before)
 
 mul-frees : tie.Need-mul-frees Inv-loop μ-loop
-mul-frees c = record { fits = omega (arith, depth-room (c .before .before .before .before .before .before .before .before .before .before .before .before)) }
+mul-frees c = record { fits = omega (arith, depth-room (c .before .before .before .before .before .before .before .before .before .before .before)) }
 
 array-set-from-frees : tie.Need-array-set-from-frees Inv-loop μ-loop
-array-set-from-frees c = depth-room (c .before .before .before .before .before .before .before .before .before .before .before .before)
+array-set-from-frees c = depth-room (c .before .before .before .before .before .before .before .before .before .before .before)
 
 add-depth : tie.Need-add-depth Inv-loop μ-loop
-add-depth c = record { fits = omega (arith, depth-room (c .before .before .before .before .before .before .before .before .before .before .before .before)) }
+add-depth c = record { fits = omega (arith, depth-room (c .before .before .before .before .before .before .before .before .before .before .before)) }
 
 without-requires : tie.Need-without-requires Inv-loop μ-loop
-without-requires c κs = c .before .before .before .before .before .before .before .before .before .lowest .ensures .width
+without-requires c κs = c .before .before .before .before .before .before .before .before .take-lowest .ensures .width
 
 loop-less-2 : tie.Need-loop-less-2 Inv-loop μ-loop
 loop-less-2 c =
-    let more = c .before .before .before .before .before .before .before .before .before .before .before .if3 .left in
-    omega (arith, more, held (c .before .before .before .before .before .before .before .before .before .before .before .before .before) .affordable)
+    let more = c .before .before .before .before .before .before .before .before .before .before .if3 .left in
+    omega (arith, more, held (c .before .before .before .before .before .before .before .before .before .before .before .before) .affordable)
 
 loop-again-2 : tie.Need-loop-again-2 Inv-loop μ-loop
 loop-again-2 c =
     let t = c .before .before in
     let e = t .before .before .before in
     let ends : SFits w32 (e .sum .result) = record { sfits = e .sum .ok } in
-    rw (c .without .ensures, e .before .before .before .before .without-lowest .ensures) (simp (toZ-ofZ, ends) (put-in t (c .before .if4 .taken)))
+    rw (c .without .ensures) (simp (toZ-ofZ, ends) (put-in t (c .before .if4 .taken)))
 
 loop-less-3 : tie.Need-loop-less-3 Inv-loop μ-loop
 loop-less-3 c =
-    let more = c .before .before .before .before .before .before .before .before .before .before .if3 .left in
-    omega (arith, more, held (c .before .before .before .before .before .before .before .before .before .before .before .before) .affordable)
+    let more = c .before .before .before .before .before .before .before .before .before .if3 .left in
+    omega (arith, more, held (c .before .before .before .before .before .before .before .before .before .before .before) .affordable)
 
 loop-again-3 : tie.Need-loop-again-3 Inv-loop μ-loop
 loop-again-3 c =
     let n = picked (c .before .before .before .before) in
     let s = head n in
     let more = n .before .if3 .left in
-    rw (c .before .before .before .before .before .before .before .before .without-lowest .ensures)
-    (tried-in-vain _ (s .before .before .pre .0) _ _ _ _ _ _ _ _ _ (held s) (s .loop-test .taken) _ (n .lowest .ensures)
-    (omega (arith, more, held s .affordable)) (sym (tested (c .before)) ∙ c .if4 .left))
+    tried-in-vain _ (s .before .before .pre .0) _ _ _ _ _ _ _ _ _ (held s) (s .loop-test .taken) (n .take-lowest .ensures)
+    (omega (arith, more, held s .affordable)) (sym (tested (c .before)) ∙ c .if4 .left)
 
 found-requires : tie.Need-found-requires Inv-loop μ-loop
 found-requires c κs =
@@ -328,8 +324,7 @@ search-spec =
     unplanned-requires-2
     returns-2
     add-tries
-    lowest-requires
-    without-lowest-requires
+    take-lowest-requires
     mul-greater
     element-copy-out-greater
     greater-requires

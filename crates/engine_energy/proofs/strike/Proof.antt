@@ -2,18 +2,17 @@
 -- is of those passed, and total is of all kept. The measure is the word of what is left. Assumes nothing.
 use borrow.Author.Needs.{needs}
 use mathlib.Core.Path.{_≡_, ap, _∙_, subst⁻¹}
-use mathlib.Core.Bool.{true, false}
+use mathlib.Core.Bool.{Bool, true, false}
 use mathlib.Core.List.{List}
 use Prim.Native.Nat.{ℕ, _^_, _<_}
-use native.Mathlib.Omega.{arith}
 use lib.IntN.{ℤ, negℤ, _+ℤ_, _-ℤ_}
 use lib.Signed.{leZ, _<ℤ_, _≤ℤ_}
 use mir.Syntax.{w32}
 use mir.Val.{toZ, ofZ}
 use mir.ValLaws.{toZ-ofZ}
-use Rattle.ground_sets.specs.Bit.{bit, without}
+use Rattle.ground_sets.specs.Bit.{bit, without, Takes}
 use Rattle.ground_sets.specs.BitLaws.{bit-zero}
-use Rattle.ground_sets.specs.Walk.{without-falls, taken-out, next-width, next-member}
+use Rattle.ground_sets.specs.Walk.{taken-out}
 use Rattle.ground_arithmetic.specs.Bools.{refuted}
 use Rattle.ground_arithmetic.specs.Linear.{whole, plus, minus}
 use Rattle.ground_arithmetic.specs.Sum.{total-subset}
@@ -48,32 +47,32 @@ module _ {s : Side} {times lengths : List ℤ} {best : ℤ} {set : ℕ} (fits : 
     all-tested : left ≡ 0 → Beats s times lengths best set kept
     all-tested empty = record { over = λ k e. p .over k e (ap (λ w. bit w k) empty ∙ bit-zero k) }
 
-    module _ (k : ℕ) (width : k < jobLimit) (waiting : bit left k ≡ true) where
+    module _ {k rest : ℕ} {downward : Bool} (taken : Takes jobLimit downward left k rest) where
       strike : leZ (boundAt s times k +ℤ all) best ≡ true
-          → Tested s times lengths best set (without jobLimit kept k) (without jobLimit left k) low (all -ℤ lengthAt lengths k)
+          → Tested s times lengths best set (without jobLimit kept k) rest low (all -ℤ lengthAt lengths k)
       strike e =
-          let member = p .passed .inside k waiting in
+          let member = p .passed .inside k (taken .member) in
           let less = load lengths (without jobLimit kept k) in
           let length = lengthAt lengths k in
-          let fewer = total-without jobLimit kept k (p .passed .fits) width member (lengthAt lengths) in
+          let fewer = total-without jobLimit kept k (p .passed .fits) (taken .width) member (lengthAt lengths) in
           let under : (boundAt s times k +ℤ load lengths kept) ≤ℤ best = omega (whole, p .loaded, plus (boundAt s times k) all, plus (boundAt s times k) (load lengths kept)) in
           record {
-            passed = pass-struck (p .passed) k width waiting;
-            strikes = struck kept k (p .strikes) width member under;
-            over = kept-passed (p .passed) k width waiting (λ j. best <ℤ (boundAt s times j +ℤ load lengths set)) (p .over);
+            passed = pass-struck (p .passed) taken;
+            strikes = struck kept k (p .strikes) (taken .width) member under;
+            over = kept-passed (p .passed) taken (λ j. best <ℤ (boundAt s times j +ℤ load lengths set)) (p .over);
             loaded = omega (whole, p .loaded, fewer, plus length less, plus all (negℤ length), minus length);
           }
 
       keep : Lengths lengths → leZ (boundAt s times k +ℤ all) best ≡ false
-          → Tested s times lengths best set kept (without jobLimit left k) (lesser low (boundAt s times k)) all
+          → Tested s times lengths best set kept rest (lesser low (boundAt s times k)) all
       keep work e =
           let inside = strikes-inside fits (p .strikes) .1 in
           let within = total-subset jobLimit (bit kept) (bit set) (lengthAt lengths) (λ j m. inside j) (λ j m h. work .low j) in
           let beaten : best <ℤ (boundAt s times k +ℤ load lengths set) = omega (whole, p .loaded, within, plus (boundAt s times k) all, plus (boundAt s times k) (load lengths set)) in
           record {
-            passed = pass (p .passed) k width waiting;
+            passed = pass (p .passed) taken;
             strikes = p .strikes;
-            over = taken-out jobLimit left k (p .passed .left-fits) width (λ j. best <ℤ (boundAt s times j +ℤ load lengths set)) (λ j. bit kept j ≡ true) (p .over) beaten;
+            over = taken-out taken (λ j. best <ℤ (boundAt s times j +ℤ load lengths set)) (λ j. bit kept j ≡ true) (p .over) beaten;
             loaded = p .loaded;
           }
 
@@ -87,20 +86,11 @@ abbrev μ-loop : tie.MeasureT-loop
 loop-holds : tie.Need-loop-holds Inv-loop μ-loop
 loop-holds c = none-tested (c .fits .set .fits) _ (toZ-ofZ w32 _ (c .fits .load) ∙ c .pre .1 .1)
 
-next-requires : tie.Need-next-requires Inv-loop μ-loop
-next-requires c κs = c .loop-test .taken
-
-without-next-requires : tie.Need-without-next-requires Inv-loop μ-loop
-without-next-requires c κs = c .next .ensures
-
-bound-requires : tie.Need-bound-requires Inv-loop μ-loop
-bound-requires c κs = (c .before .before .before .before .pre .0, next-width _ _ _ _ (c .before .next .ensures))
-
 -- a bound, as the machine reads it back from its bits
 low-is : (c : tie.After-bound Inv-loop μ-loop)
-    → let s = c .before .before in
-    let a = s .before .before .before .args in
-    toZ w32 (ofZ w32 (c .bound .result)) ≡ boundAt (sideOf (a .side)) (a .times .now) (s .next .result)
+    → let walk = c .before in
+    let a = walk .before .before .before .args in
+    toZ w32 (ofZ w32 (c .bound .result)) ≡ boundAt (sideOf (a .side)) (a .times .now) (walk .take-next .result .member)
 low-is c = toZ-ofZ w32 _ (record { sfits = c .bound .ok }) ∙ c .bound .ensures
 
 all-moderate : (c : tie.At-loop Inv-loop μ-loop) → Moderate (toZ w32 (c .loop .total))
@@ -108,69 +98,45 @@ all-moderate c = subst⁻¹ Moderate (c .loop .inv .loaded) (load-moderate (c .b
 
 sum-requires : tie.Need-sum-requires Inv-loop μ-loop
 sum-requires c κs =
-    let s = c .before .before in
-    let at = s .before .before in
-    (rw (low-is c) (bound-moderate (sideOf (at .before .args .side)) (at .before .pre .0) (s .next .result)), all-moderate at)
+    let walk = c .before in
+    let at = walk .before .before in
+    (rw (low-is c) (bound-moderate (sideOf (at .before .args .side)) (at .before .pre .0) (walk .take-next .result .member)), all-moderate at)
 
 -- the bound with the total, as the machine reads it back from its bits
 sum-is : (c : tie.After-sum Inv-loop μ-loop)
-    → let s = c .before .before .before in
-    let at = s .before .before in
+    → let walk = c .before .before in
+    let at = walk .before .before in
     let a = at .before .args in
-    toZ w32 (ofZ w32 (c .sum .result)) ≡ boundAt (sideOf (a .side)) (a .times .now) (s .next .result) +ℤ toZ w32 (at .loop .total)
+    toZ w32 (ofZ w32 (c .sum .result)) ≡ boundAt (sideOf (a .side)) (a .times .now) (walk .take-next .result .member) +ℤ toZ w32 (at .loop .total)
 sum-is c = toZ-ofZ w32 _ (record { sfits = c .sum .ok }) ∙ (rw (low-is (c .before)) at (c .sum .ensures))
-
-without-requires : tie.Need-without-requires Inv-loop μ-loop
-without-requires c κs = next-width _ _ _ _ (c .before .before .before .before .next .ensures)
-
-mul-gap : tie.Need-mul-gap Inv-loop μ-loop
-mul-gap c = omega (arith, next-width _ _ _ _ (c .before .before .before .before .before .next .ensures))
-
-element-copy-out-gap : tie.Need-element-copy-out-gap Inv-loop μ-loop
-element-copy-out-gap c = next-width _ _ _ _ (c .before .before .before .before .before .next .ensures)
 
 gap-requires : tie.Need-gap-requires Inv-loop μ-loop
 gap-requires c κs =
-    let s = c .before .before .before .before .before .before in
-    let at = s .before .before in
+    let walk = c .before .before .before .before .before in
+    let at = walk .before .before in
     let work = at .before .pre .1 .0 in
-    let k = s .next .result in
+    let k = walk .take-next .result .member in
     (all-moderate at, simp (toZ-ofZ, length-fits work k) (length-moderate work k))
-
-loop-less : tie.Need-loop-less Inv-loop μ-loop
-loop-less c =
-    let s = c .before .before .before .before .before .before in
-    let at = s .before .next .ensures in
-    rw (s .without-next .ensures) (without-falls _ _ _ (s .before .before .before .loop .inv .passed .left-fits) (next-width _ _ _ _ at) (next-member _ _ _ _ at))
 
 loop-again : tie.Need-loop-again Inv-loop μ-loop
 loop-again c =
     let t = c .before .before .before in
-    let s = t .before .before .before in
-    let low = s .before .next in
-    let at = s .before .before .before in
+    let walk = t .before .before .before in
+    let at = walk .before .before in
     let start = at .before in
-    let less = simp (toZ-ofZ, length-fits (start .pre .1 .0) (low .result)) at (c .gap .ensures) in
-    rw (s .without-next .ensures, c .before .before .without .ensures, toZ-ofZ w32 (c .gap .result) (record { sfits = c .gap .ok }), less)
-    (strike (start .fits .set .fits) (at .loop .inv) (low .result) (next-width _ _ _ _ (low .ensures)) (next-member _ _ _ _ (low .ensures)) (rw (sum-is (t .before)) at (t .if1 .taken)))
-
-loop-less-2 : tie.Need-loop-less-2 Inv-loop μ-loop
-loop-less-2 c =
-    let s = c .before .before .before .before in
-    let at = s .before .next .ensures in
-    rw (s .without-next .ensures) (without-falls _ _ _ (s .before .before .before .loop .inv .passed .left-fits) (next-width _ _ _ _ at) (next-member _ _ _ _ at))
+    let less = simp (toZ-ofZ, length-fits (start .pre .1 .0) (walk .take-next .result .member)) at (c .gap .ensures) in
+    rw (c .before .before .without .ensures, toZ-ofZ w32 (c .gap .result) (record { sfits = c .gap .ok }), less)
+    (strike (start .fits .set .fits) (at .loop .inv) (walk .take-next .ensures) (rw (sum-is (t .before)) at (t .if1 .taken)))
 
 loop-again-2 : tie.Need-loop-again-2 Inv-loop μ-loop
 loop-again-2 c =
     let e = c .before in
-    let s = e .before .before .before in
-    let low = s .before .next in
-    let at = s .before .before .before in
+    let walk = e .before .before .before in
+    let at = walk .before .before in
     let start = at .before in
     let d = c .lesser in
     let least = toZ-ofZ w32 (d .result) (record { sfits = d .ok }) ∙ (rw (low-is (e .before .before)) at (d .ensures)) in
-    rw (s .without-next .ensures, least)
-    (keep (start .fits .set .fits) (at .loop .inv) (low .result) (next-width _ _ _ _ (low .ensures)) (next-member _ _ _ _ (low .ensures)) (start .pre .1 .0) (rw (sum-is (e .before)) at (e .if1 .left)))
+    rw least (keep (start .fits .set .fits) (at .loop .inv) (walk .take-next .ensures) (start .pre .1 .0) (rw (sum-is (e .before)) at (e .if1 .left)))
 
 returns : tie.Need-returns Inv-loop μ-loop
 returns c =
@@ -190,17 +156,16 @@ strike-spec =
     Inv-loop
     μ-loop
     loop-holds
-    next-requires
-    without-next-requires
-    bound-requires
+    (λ c κs. search needs)
+    (λ c κs. search needs)
     sum-requires
-    without-requires
-    mul-gap
-    element-copy-out-gap
+    (λ c κs. search needs)
+    (λ c. search needs)
+    (λ c. search needs)
     gap-requires
-    loop-less
+    (λ c. search needs)
     loop-again
     (λ c κs. search needs)
-    loop-less-2
+    (λ c. search needs)
     loop-again-2
     returns)

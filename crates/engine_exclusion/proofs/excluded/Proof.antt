@@ -1,34 +1,26 @@
 -- `engine_exclusion::excluded` meets its contract: one job after the other. Assumes nothing.
 use borrow.Author.Needs.{needs}
-use mathlib.Core.Path.{_≡_}
-use mathlib.Core.Bool.{true}
-use Rattle.ground_sets.specs.Bit.{bit}
-use Rattle.paper_board.specs.Tests.Sets.{ToCome, to-come, fewer}
+use Rattle.paper_board.specs.Tests.Sets.{Subset}
 use Rattle.engine_exclusion.specs.Gone.{Crossed, crossed-none, crossed-more}
 use Rattle.engine_exclusion.proofs.excluded.Statement.{statement}
 use Rattle.engine_exclusion.proofs.excluded.Tie as tie
 
 abbrev Inv-loop : tie.InvT-loop
-Inv-loop set before after found₀ left₀ found left = ToCome (λ k. bit set k ≡ true) left × Crossed before after set found
+Inv-loop set before after found₀ left₀ found left = Subset left set × Crossed before after set found
 
 abbrev μ-loop : tie.MeasureT-loop
 μ-loop set before after found₀ left₀ found left = left
 
 loop-holds : tie.Need-loop-holds Inv-loop μ-loop
-loop-holds c = (to-come (c .fits .set .fits) (λ x e. e), crossed-none _ _ _)
-
-loop-less : tie.Need-loop-less Inv-loop μ-loop
-loop-less c =
-    let walk = c .before .before .before .before in
-    fewer (walk .before .before .before .loop .inv .0) (walk .before .lowest .ensures) (walk .without-lowest .ensures) .1
+loop-holds c = (λ x e. e, crossed-none _ _ _)
 
 loop-again : tie.Need-loop-again Inv-loop μ-loop
 loop-again c =
     let walk = c .before .before .before .before in
-    let (left, found) = walk .before .before .before .loop .inv in
-    let low = walk .before .lowest .ensures in (
-      fewer left low (walk .without-lowest .ensures) .0,
-      crossed-more _ _ _ _ _ found (left .member _ (low .member)) _ _ (c .before .intersection .ensures) (c .union .ensures),
+    let (left, found) = walk .before .before .loop .inv in
+    let taken = walk .take-lowest .ensures in (
+      λ x e. left x (taken .inside x e),
+      crossed-more _ _ _ _ _ found (left _ (taken .member)) _ _ (c .before .intersection .ensures) (c .union .ensures),
     )
 
 returns : tie.Need-returns Inv-loop μ-loop
@@ -42,13 +34,12 @@ excluded-spec =
     μ-loop
     loop-holds
     (λ c κs. search needs)
-    (λ c κs. search needs)
     (λ c. search needs)
     (λ c. search needs)
     (λ c. search needs)
     (λ c. search needs)
     (λ c κs. search needs)
     (λ c κs. search needs)
-    loop-less
+    (λ c. search needs)
     loop-again
     returns)

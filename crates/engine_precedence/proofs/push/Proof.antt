@@ -1,8 +1,5 @@
 -- `engine_precedence::push` meets its contract: one job after the other. The measure is the word of the jobs that are left. Assumes nothing.
 use borrow.Author.Needs.{needs}
-use Prim.Native.Nat.{_<_, _^_}
-use Rattle.ground_sets.specs.BitLaws.{without-lt}
-use Rattle.ground_sets.specs.Walk.{walk-falls}
 use Rattle.paper_board.specs.Paper.Values.{sideOf}
 use Rattle.engine_energy.specs.Energy.{Times}
 use Rattle.engine_precedence.specs.Leading.{Leaves, unknown-leaves}
@@ -14,7 +11,6 @@ abbrev Inv-loop : tie.InvT-loop
 Inv-loop side set times₀ fixed lengths beyond opposite valid all₀ known₀ left₀ times all known left =
     let read = Reads (sideOf side) fixed lengths beyond valid in
     record {
-      width : left < 2 ^ 64;
       hours : Times times;
       leaves : Leaves (sideOf side) times lengths known;
       raised : Raises (sideOf side) read times₀ times;
@@ -28,7 +24,6 @@ loop-holds : tie.Need-loop-holds Inv-loop μ-loop
 loop-holds c =
     let start = c .before .before in
     record {
-      width = start .fits .set .fits;
       hours = start .pre .0;
       leaves = unknown-leaves _ _ _ _ (c .unknown .ensures);
       raised = raises-none _ _ _ _ _ _;
@@ -37,20 +32,15 @@ loop-holds c =
 
 leading-to-requires : tie.Need-leading-to-requires Inv-loop μ-loop
 leading-to-requires c κs =
-    let at = c .before .before .before .before in
-    (c .before .before .lowest .ensures .width, at .loop .inv .hours, at .before .before .before .pre .2, at .loop .inv .leaves)
+    let at = c .before .before .before in
+    (c .before .take-lowest .ensures .width, at .loop .inv .hours, at .before .before .before .pre .2, at .loop .inv .leaves)
 
 push-job-requires : tie.Need-push-job-requires Inv-loop μ-loop
 push-job-requires c κs =
     let led = c .before in
-    let at = led .before .before .before .before .before in
+    let at = led .before .before .before .before in
     let (_, other, work) = at .before .before .before .pre in
-    (led .before .before .before .lowest .ensures .width, at .loop .inv .hours, other, work, led .leading-to .ensures .1)
-
-loop-less : tie.Need-loop-less Inv-loop μ-loop
-loop-less c =
-    let walk = c .before .before .before .before .before .before .before .before in
-    walk-falls (walk .before .before .before .loop .inv .width) (walk .before .lowest .ensures) (walk .without-lowest .ensures)
+    (led .before .before .take-lowest .ensures .width, at .loop .inv .hours, other, work, led .leading-to .ensures .1)
 
 -- one job more
 loop-again : tie.Need-loop-again Inv-loop μ-loop
@@ -58,8 +48,7 @@ loop-again c =
     let both = c .before .before in
     let run = both .before .before in
     let led = run .before .before in
-    let walk = led .before .before in
-    let at = walk .before .before .before in
+    let at = led .before .before .before .before in
     let inv = at .loop .inv in
     let a = at .before .before .before .args in
     let ((hours, same), (raises, shuts)) = run .push-job .ensures in
@@ -67,7 +56,6 @@ loop-again c =
     let (raised, shut) =
     pushed-on (sideOf (a .side)) _ _ _ _ _ _ _ _ _ _ (inv .raised) (inv .shut) (raises _ is, shuts _ is) (both .both .ensures) in
     record {
-      width = rw (walk .without-lowest .ensures) (without-lt 64 _ _ (inv .width));
       hours = hours;
       leaves = both .before .lasting .ensures (sideOf (a .side)) _ _ _ leaves same;
       raised = raised;
@@ -84,7 +72,7 @@ returns-2 c =
     let both = c .before .before in
     let run = both .before .before in
     let led = run .before .before in
-    let at = led .before .before .before .before .before in
+    let at = led .before .before .before .before in
     let inv = at .loop .inv in
     let ((hours, _), (raises, shuts)) = run .push-job .ensures in
     let (is, _) = led .leading-to .ensures in
@@ -100,13 +88,12 @@ push-spec =
     (λ c κs. search needs)
     loop-holds
     (λ c κs. search needs)
-    (λ c κs. search needs)
     leading-to-requires
     push-job-requires
     (λ c κs. search needs)
     (λ c κs. search needs)
     (λ c κs. search needs)
-    loop-less
+    (λ c. search needs)
     loop-again
     returns
     returns-2)

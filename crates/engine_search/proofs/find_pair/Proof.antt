@@ -3,16 +3,13 @@
 use mathlib.Core.Path.{_≡_, refl, ap, subst}
 use mathlib.Core.Bool.{not}
 use mathlib.Core.Logic.{_≢_}
-use Prim.Native.Nat.{_<_, _^_}
 use lib.ListN.{getD}
 use mir.Syntax.{w32}
 use mir.Val.{toZ, ofZ}
 use mir.ValLaws.{toZ-ofZ}
-use Rattle.ground_sets.specs.BitLaws.{without-lt}
-use Rattle.ground_sets.specs.Walk.{walk-falls, visited, none-left}
+use Rattle.ground_sets.specs.Walk.{visited, none-left}
 use Rattle.ground_arithmetic.specs.Bools.{refuted}
 use Rattle.paper_board.specs.declared.Board.{Board}
-use Rattle.paper_board.specs.Paper.Limits.{jobLimit}
 use Rattle.paper_board.specs.Paper.View.{Live, view}
 use Rattle.paper_board.specs.Tests.Decides.{Decides}
 use Rattle.engine_findings.specs.Searched.{PairObeys}
@@ -26,14 +23,14 @@ use Rattle.engine_search.proofs.find_pair.Tie as tie
 
 abbrev Inv-loop : tie.InvT-loop
 Inv-loop live valid earliest latest lengths before after least found₀ rows i end into out others₀ found others =
-    (found ≡ None) × (others < 2 ^ jobLimit) × ((b : Board) → Read b live valid earliest latest lengths before after → PairsLeft (view b) i others)
+    (found ≡ None) × ((b : Board) → Read b live valid earliest latest lengths before after → PairsLeft (view b) i others)
 
 abbrev μ-loop : tie.MeasureT-loop
 μ-loop live valid earliest latest lengths before after least found₀ rows i end into out others₀ found others = others
 
 abbrev Inv-pairs : tie.InvT-pairs
 Inv-pairs live valid earliest latest lengths before after least found₀ rows₀ found rows =
-    (found ≡ None) × (rows < 2 ^ jobLimit) × ((b : Board) → Read b live valid earliest latest lengths before after → RowsLeft (view b) rows)
+    (found ≡ None) × ((b : Board) → Read b live valid earliest latest lengths before after → RowsLeft (view b) rows)
 
 abbrev μ-pairs : tie.MeasureT-pairs
 μ-pairs live valid earliest latest lengths before after least found₀ rows₀ found rows = rows
@@ -42,14 +39,14 @@ abbrev μ-pairs : tie.MeasureT-pairs
 abbrev start-of : tie.At-pairs Inv-loop μ-loop Inv-pairs μ-pairs → tie.Start Inv-loop μ-loop Inv-pairs μ-pairs
 start-of c = c .before .before
 
-abbrev walk-of : tie.After-without-lowest Inv-loop μ-loop Inv-pairs μ-pairs → tie.At-pairs Inv-loop μ-loop Inv-pairs μ-pairs
-walk-of c = c .before .before .before
+abbrev walk-of : tie.After-take-lowest Inv-loop μ-loop Inv-pairs μ-pairs → tie.At-pairs Inv-loop μ-loop Inv-pairs μ-pairs
+walk-of c = c .before .before
 
 abbrev end-of : tie.At-loop Inv-loop μ-loop Inv-pairs μ-pairs → tie.After-earliest-end Inv-loop μ-loop Inv-pairs μ-pairs
 end-of c = c .before .before .before .before
 
-abbrev pair-of : tie.After-applies Inv-loop μ-loop Inv-pairs μ-pairs → tie.After-lowest2 Inv-loop μ-loop Inv-pairs μ-pairs
-pair-of c = c .before .before .before .before
+abbrev pair-of : tie.After-applies Inv-loop μ-loop Inv-pairs μ-pairs → tie.After-take-lowest2 Inv-loop μ-loop Inv-pairs μ-pairs
+pair-of c = c .before .before .before
 
 -- what the arrays at the entry are read from
 abbrev ReadAt : tie.Start Inv-loop μ-loop Inv-pairs μ-pairs → Board → Type 0
@@ -60,20 +57,19 @@ ReadAt s b =
 -- the end of the row's job, as the machine reads it back from its bits
 end-is : (c : tie.After-earliest-end Inv-loop μ-loop Inv-pairs μ-pairs)
     → let a = start-of (walk-of (c .before)) .args in
-    EarliestEnd (a .earliest .now) (a .lengths .now) (c .before .before .lowest .result) (toZ w32 (ofZ w32 (c .earliest-end .result)))
+    EarliestEnd (a .earliest .now) (a .lengths .now) (c .before .take-lowest .result .member) (toZ w32 (ofZ w32 (c .earliest-end .result)))
 end-is c = rw (toZ-ofZ w32 _ (record { sfits = c .earliest-end .ok })) (c .earliest-end .ensures)
 
 row-reads : (c : tie.After-earliest-end Inv-loop μ-loop Inv-pairs μ-pairs) (b : Board)
     → let a = start-of (walk-of (c .before)) .args in
-    let i = c .before .before .lowest .result in
+    let i = c .before .take-lowest .result .member in
     ReadAt (start-of (walk-of (c .before))) b
     → RowRead b i (a .live) (a .valid) (getD (a .before .now) i 0) (getD (a .after .now) i 0) (toZ w32 (ofZ w32 (c .earliest-end .result))) (a .latest .now) (a .lengths .now) (a .after .now)
 row-reads c b h =
-    let low = c .before .before .lowest in
-    row-read h (low .result) (walk-of (c .before) .pairs .inv .2 b h .member (low .result) (low .ensures .member)) _ (end-is c .is)
+    row-read h _ (walk-of (c .before) .pairs .inv .1 b h .member _ (c .before .take-lowest .ensures .member)) _ (end-is c .is)
 
 pairs-holds : tie.Need-pairs-holds Inv-loop μ-loop Inv-pairs μ-pairs
-pairs-holds c = (refl, c .before .fits .live .fits, λ b h. all-left h (c .before .fits .live .fits) _)
+pairs-holds c = (refl, λ b h. all-left h (c .before .fits .live .fits) _)
 
 partners-requires : tie.Need-partners-requires Inv-loop μ-loop Inv-pairs μ-pairs
 partners-requires c κs =
@@ -81,74 +77,57 @@ partners-requires c κs =
     let walk = walk-of (end .before) in
     let (_, ends, work) = start-of walk .pre in
     let least = walk .before .latest-start in
-    (end .before .before .lowest .ensures .width, end-is end .moderate, ends, work, rw (toZ-ofZ w32 _ (record { sfits = least .ok })) (least .ensures))
+    (end .before .take-lowest .ensures .width, end-is end .moderate, ends, work, rw (toZ-ofZ w32 _ (record { sfits = least .ok })) (least .ensures))
 
 loop-holds : tie.Need-loop-holds Inv-loop μ-loop Inv-pairs μ-pairs
 loop-holds c =
     let end = c .before .before .before in
-    (walk-of (end .before) .pairs .inv .0, c .partners .ok, λ b h. c .partners .ensures b (row-reads end b h))
-
-pairs-less : tie.Need-pairs-less Inv-loop μ-loop Inv-pairs μ-pairs
-pairs-less c =
-    let row = end-of (c .before) .before in
-    walk-falls (walk-of row .pairs .inv .1) (row .before .lowest .ensures) (row .without-lowest .ensures)
+    (walk-of (end .before) .pairs .inv .0, λ b h. c .partners .ensures b (row-reads end b h))
 
 pairs-again : tie.Need-pairs-again Inv-loop μ-loop Inv-pairs μ-pairs
 pairs-again c =
     let row = end-of (c .before) .before in
-    let old = walk-of row .pairs in
-    let low = row .before .lowest in
-    let i = low .result in
-    let inv = c .before .loop .inv in
-    rw (row .without-lowest .ensures) (
+    let i = row .take-lowest .result .member in
+    let inv = c .before .loop .inv in (
       inv .0,
-      without-lt jobLimit (old .rows) i (old .inv .1),
-      λ b h. visited jobLimit _ _ (old .rows) i (old .inv .2 b h) (low .ensures)
-          (none-left jobLimit _ _ (subst (PairsLeft (view b) i) (c .loop-test .left) (inv .2 b h))),
+      λ b h. visited (walk-of row .pairs .inv .1 b h) (row .take-lowest .ensures)
+          (none-left (subst (PairsLeft (view b) i) (c .loop-test .left) (inv .1 b h))),
     )
 
 ends-late-requires : tie.Need-ends-late-requires Inv-loop μ-loop Inv-pairs μ-pairs
 ends-late-requires c κs =
-    let end = end-is (end-of (c .before .before .before)) .moderate in
+    let end = end-is (end-of (c .before .before)) .moderate in
     search needs
 
 -- the second job of a pair is live and another one
-apart : (c : tie.After-lowest2 Inv-loop μ-loop Inv-pairs μ-pairs) (b : Board)
+apart : (c : tie.After-take-lowest2 Inv-loop μ-loop Inv-pairs μ-pairs) (b : Board)
     → let row = end-of (c .before .before) .before in
-    let k = c .lowest2 .result in
-    ReadAt (start-of (walk-of row)) b → Live (view b) k × (row .before .lowest .result ≢ k)
-apart c b h = c .before .before .loop .inv .2 b h .member (c .lowest2 .result) (c .lowest2 .ensures .member)
+    let k = c .take-lowest2 .result .member in
+    ReadAt (start-of (walk-of row)) b → Live (view b) k × (row .take-lowest .result .member ≢ k)
+apart c b h = c .before .before .loop .inv .1 b h .member (c .take-lowest2 .result .member) (c .take-lowest2 .ensures .member)
 
 -- the test at a pair decides whether the board obeys the rules there
 tested : (c : tie.After-applies Inv-loop μ-loop Inv-pairs μ-pairs) (b : Board)
     → let row = end-of (pair-of c .before .before) .before in
     ReadAt (start-of (walk-of row)) b
-    → Decides (not (c .applies .result)) (PairObeys (view b) (row .before .lowest .result) (pair-of c .lowest2 .result))
+    → Decides (not (c .applies .result)) (PairObeys (view b) (row .take-lowest .result .member) (pair-of c .take-lowest2 .result .member))
 tested c b h =
     let at = pair-of c in
-    c .applies .ensures (view b) (pair-read (row-reads (end-of (at .before .before)) b h) (at .lowest2 .result) (apart at b h) _ (c .before .before .ends-late .ensures))
-
-loop-less : tie.Need-loop-less Inv-loop μ-loop Inv-pairs μ-pairs
-loop-less c =
-    let next = c .before .before .before .before in
-    walk-falls (next .before .before .before .loop .inv .1) (next .before .lowest2 .ensures) (next .without-lowest2 .ensures)
+    c .applies .ensures (view b) (pair-read (row-reads (end-of (at .before .before)) b h) (at .take-lowest2 .result .member) (apart at b h) _ (c .before .before .ends-late .ensures))
 
 loop-again : tie.Need-loop-again Inv-loop μ-loop Inv-pairs μ-pairs
 loop-again c =
     let next = c .before .before .before .before in
-    let loop = next .before .before .before .loop in
-    let low = next .before .lowest2 in
-    rw (next .without-lowest2 .ensures) (
-      loop .inv .0,
-      without-lt jobLimit (loop .others) (low .result) (loop .inv .1),
-      λ b h. visited jobLimit _ _ (loop .others) (low .result) (loop .inv .2 b h) (low .ensures)
+    let inv = next .before .before .loop .inv in (
+      inv .0,
+      λ b h. visited (inv .1 b h) (next .take-lowest2 .ensures)
           (obeys-settled (view b) _ _ (tested (c .before) b h .yes (ap not (c .if1 .left)))),
     )
 
 returns : tie.Need-returns Inv-loop μ-loop Inv-pairs μ-pairs
 returns c =
     let inv = c .before .pairs .inv in
-    rw (inv .0) λ b h. none-left jobLimit _ _ (subst (RowsLeft (view b)) (c .pairs-test .left) (inv .2 b h))
+    rw (inv .0) λ b h. none-left (subst (RowsLeft (view b)) (c .pairs-test .left) (inv .1 b h))
 
 returns-2 : tie.Need-returns-2 Inv-loop μ-loop Inv-pairs μ-pairs
 returns-2 c =
@@ -172,22 +151,20 @@ find-pair-spec =
     pairs-holds
     (λ c κs. search needs)
     (λ c κs. search needs)
-    (λ c κs. search needs)
     (λ c. search needs)
     (λ c. search needs)
     (λ c. search needs)
     (λ c. search needs)
     partners-requires
     loop-holds
-    pairs-less
+    (λ c. search needs)
     pairs-again
-    (λ c κs. search needs)
     (λ c κs. search needs)
     ends-late-requires
     (λ c. search needs)
     (λ c. search needs)
     (λ c κs. search needs)
-    loop-less
+    (λ c. search needs)
     loop-again
     returns
     returns-2)

@@ -1,11 +1,10 @@
--- Sets of jobs as words: one in another, and walks over the jobs of one.
+-- Sets of jobs as words: one in another.
 use mathlib.Core.Path.{_≡_, refl, sym, _∙_, subst}
 use mathlib.Core.Bool.{Bool, true, false}
-use Prim.Native.Nat.{ℕ, _-_, _<_, _^_}
+use Prim.Native.Nat.{ℕ, _-_, _^_}
 use borrow.Author.Tests.{eqb-true}
-use Rattle.ground_sets.specs.Bit.{bit, with, without, intersection, difference, Lowest}
+use Rattle.ground_sets.specs.Bit.{bit, with, intersection, difference}
 use Rattle.ground_sets.specs.BitLaws.{bit-zero, bit-with, bit-intersection}
-use Rattle.ground_sets.specs.Walk.{walk-falls, Left, visited}
 use Rattle.ground_arithmetic.specs.Bools.{and-parts, refuted}
 use Rattle.paper_board.specs.Paper.Limits.{jobLimit}
 
@@ -34,14 +33,3 @@ subset-intersection a b = (λ x e. both x e .0, λ x e. both x e .1)
 pub subset-difference : (a b : ℕ) → Subset (difference jobLimit a b) a
 unfolding difference intersection
 subset-difference a b = subset-intersection a (2 ^ jobLimit - 1 - b) .0
-
--- the jobs of `left` are still to come, and each has P
-abbrev pub ToCome : (ℕ → Type 0) → ℕ → Type 0
-ToCome P = Left jobLimit P (λ _. Unit)
-
-pub to-come : {P : ℕ → Type 0} {w : ℕ} → w < 2 ^ jobLimit → ((x : ℕ) → bit w x ≡ true → P x) → ToCome P w
-to-come width member = record { width = width; member = member; done = λ _ _ _. tt }
-
--- one job less
-pub fewer : {P : ℕ → Type 0} {left k next : ℕ} → ToCome P left → Lowest jobLimit left k → next ≡ without jobLimit left k → ToCome P next × (next < left)
-fewer {P} {left} {k} h low e = (rw e (visited jobLimit P (λ _. Unit) left k h low tt), walk-falls (h .width) low e)

@@ -1,35 +1,27 @@
 -- `engine_ordering::detection::detect_beside` meets its contract: one pair after the other. Assumes nothing.
 use borrow.Author.Needs.{needs}
-use mathlib.Core.Path.{_≡_}
-use mathlib.Core.Bool.{true}
-use Rattle.ground_sets.specs.Bit.{bit}
-use Rattle.paper_board.specs.Tests.Sets.{ToCome, to-come, fewer}
+use Rattle.paper_board.specs.Tests.Sets.{Subset}
 use Rattle.engine_ordering.specs.Arcs.{Sound, sound-none}
 use Rattle.engine_ordering.specs.Detection.{Beside, beside-more}
 use Rattle.engine_ordering.proofs.detection.detect_beside.Statement.{statement}
 use Rattle.engine_ordering.proofs.detection.detect_beside.Tie as tie
 
 abbrev Inv-loop : tie.InvT-loop
-Inv-loop side before₀ after₀ job others earliest latest lengths known-before known-after left₀ before after left = ToCome (λ k. bit others k ≡ true) left × Sound (Beside job others earliest latest lengths) before₀ after₀ before after
+Inv-loop side before₀ after₀ job others earliest latest lengths known-before known-after left₀ before after left = Subset left others × Sound (Beside job others earliest latest lengths) before₀ after₀ before after
 
 abbrev μ-loop : tie.MeasureT-loop
 μ-loop side before₀ after₀ job others earliest latest lengths known-before known-after left₀ before after left = left
 
 loop-holds : tie.Need-loop-holds Inv-loop μ-loop
-loop-holds c = (to-come (c .before .before .fits .others .fits) (λ x e. e), sound-none (Beside _ _ _ _ _) _ _)
-
-loop-less : tie.Need-loop-less Inv-loop μ-loop
-loop-less c =
-    let walk = c .before .before .before in
-    fewer (walk .before .before .before .loop .inv .0) (walk .before .lowest .ensures) (walk .without-lowest .ensures) .1
+loop-holds c = (λ x e. e, sound-none (Beside _ _ _ _ _) _ _)
 
 loop-again : tie.Need-loop-again Inv-loop μ-loop
 loop-again c =
     let walk = c .before .before .before in
-    let (left, run) = walk .before .before .before .loop .inv in
-    let low = walk .before .lowest .ensures in
-    let member = left .member _ (low .member) in
-    (fewer left low (walk .without-lowest .ensures) .0, beside-more _ _ _ _ _ _ _ _ _ run _ member _ _ (c .detect-on .ensures))
+    let (left, run) = walk .before .before .loop .inv in
+    let taken = walk .take-lowest .ensures in
+    let member = left _ (taken .member) in
+    (λ x e. left x (taken .inside x e), beside-more _ _ _ _ _ _ _ _ _ run _ member _ _ (c .detect-on .ensures))
 
 returns : tie.Need-returns Inv-loop μ-loop
 returns c = c .before .before .before .before .before .before .before .before .loop .inv .1
@@ -47,8 +39,7 @@ detect-beside-spec =
     loop-holds
     (λ c κs. search needs)
     (λ c κs. search needs)
-    (λ c κs. search needs)
-    loop-less
+    (λ c. search needs)
     loop-again
     (λ c. search needs)
     (λ c. search needs)

@@ -1,42 +1,34 @@
 -- `engine_ordering::detection::detect_each` meets its contract: one job after the other. Assumes nothing.
 use borrow.Author.Needs.{needs}
-use mathlib.Core.Path.{_≡_}
-use mathlib.Core.Bool.{true}
-use Rattle.ground_sets.specs.Bit.{bit}
-use Rattle.paper_board.specs.Tests.Sets.{ToCome, to-come, fewer}
+use Rattle.paper_board.specs.Tests.Sets.{Subset}
 use Rattle.engine_ordering.specs.Arcs.{Sound, sound-none}
 use Rattle.engine_ordering.specs.Detection.{Meeting, job-detected}
 use Rattle.engine_ordering.proofs.detection.detect_each.Statement.{statement}
 use Rattle.engine_ordering.proofs.detection.detect_each.Tie as tie
 
 abbrev Inv-loop : tie.InvT-loop
-Inv-loop side before₀ after₀ due others valid earliest latest lengths found₀ left₀ before after found left = ToCome (λ k. bit due k ≡ true) left × Sound (Meeting due others earliest latest lengths) before₀ after₀ before after
+Inv-loop side before₀ after₀ due others valid earliest latest lengths found₀ left₀ before after found left = Subset left due × Sound (Meeting due others earliest latest lengths) before₀ after₀ before after
 
 abbrev μ-loop : tie.MeasureT-loop
 μ-loop side before₀ after₀ due others valid earliest latest lengths found₀ left₀ before after found left = left
 
 loop-holds : tie.Need-loop-holds Inv-loop μ-loop
-loop-holds c = (to-come (c .before .fits .due .fits) (λ x e. e), sound-none (Meeting _ _ _ _ _) _ _)
+loop-holds c = (λ x e. e, sound-none (Meeting _ _ _ _ _) _ _)
 
 -- from the end of a turn of the loop back to the job that it took
-abbrev walk-of : tie.After-detect-beside Inv-loop μ-loop → tie.After-without-lowest Inv-loop μ-loop
+abbrev walk-of : tie.After-detect-beside Inv-loop μ-loop → tie.After-take-lowest Inv-loop μ-loop
 walk-of c = c .before .before .before .before .before .before .before .before .before
-
-loop-less : tie.Need-loop-less Inv-loop μ-loop
-loop-less c =
-    let walk = walk-of (c .before) in
-    fewer (walk .before .before .before .loop .inv .0) (walk .before .lowest .ensures) (walk .without-lowest .ensures) .1
 
 loop-again : tie.Need-loop-again Inv-loop μ-loop
 loop-again c =
     let found = c .before in
     let others = found .before .before .before in
     let walk = walk-of found in
-    let at = walk .before .before .before in
+    let at = walk .before .before in
     let (left, run) = at .loop .inv in
-    let low = walk .before .lowest .ensures in (
-      fewer left low (walk .without-lowest .ensures) .0,
-      job-detected _ _ _ _ _ _ _ (at .before .before .fits .others .fits) _ _ run _ _ _ (low .width) (left .member _ (low .member)) (others .before .before .kept-apart .ok) (rw (others .before .without .ensures) at (others .difference .ensures)) _ _ (found .detect-beside .ensures),
+    let taken = walk .take-lowest .ensures in (
+      λ x e. left x (taken .inside x e),
+      job-detected _ _ _ _ _ _ _ (at .before .before .fits .others .fits) _ _ run _ _ _ (taken .width) (left _ (taken .member)) (others .before .before .kept-apart .ok) (rw (others .before .without .ensures) at (others .difference .ensures)) _ _ (found .detect-beside .ensures),
     )
 
 returns : tie.Need-returns Inv-loop μ-loop
@@ -51,7 +43,6 @@ detect-each-spec =
     (λ c κs. search needs)
     loop-holds
     (λ c κs. search needs)
-    (λ c κs. search needs)
     (λ c. search needs)
     (λ c. search needs)
     (λ c. search needs)
@@ -62,6 +53,6 @@ detect-each-spec =
     (λ c κs. search needs)
     (λ c κs. search needs)
     (λ c κs. search needs)
-    loop-less
+    (λ c. search needs)
     loop-again
     returns)

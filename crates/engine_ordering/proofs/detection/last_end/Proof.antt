@@ -2,14 +2,11 @@
 -- that are left. Assumes nothing.
 use borrow.Author.Needs.{needs}
 use mathlib.Core.Path.{_∙_}
-use Prim.Native.Nat.{_<_, _^_}
 use lib.IntN.{ℤ}
 use lib.Signed.{ltZ}
 use mir.Syntax.{w32}
 use mir.Val.{toZ}
 use mir.ValLaws.{toZ-ofZ}
-use Rattle.ground_sets.specs.BitLaws.{without-lt}
-use Rattle.ground_sets.specs.Walk.{walk-falls}
 use Rattle.ground_arithmetic.specs.Bools.{by-test}
 use Rattle.ground_arithmetic.specs.Time.{Moderate, greater}
 use Rattle.paper_board.specs.Paper.Values.{sideOf}
@@ -21,30 +18,24 @@ moderate : (a b : ℤ) → Moderate a → Moderate b → Moderate (greater a b)
 moderate a b h k = by-test Moderate (ltZ a b) b a (λ e. k) (λ e. h)
 
 abbrev Inv-loop : tie.InvT-loop
-Inv-loop side set times lengths last₀ left₀ last left = (left < 2 ^ 64) × Moderate (toZ w32 last)
+Inv-loop side set times lengths last₀ left₀ last left = Moderate (toZ w32 last)
 
 abbrev μ-loop : tie.MeasureT-loop
 μ-loop side set times lengths last₀ left₀ last left = left
 
-loop-less : tie.Need-loop-less Inv-loop μ-loop
-loop-less c =
-    let walk = c .before .before in
-    walk-falls (walk .before .before .before .loop .inv .0) (walk .before .lowest .ensures) (walk .without-lowest .ensures)
-
 loop-again : tie.Need-loop-again Inv-loop μ-loop
 loop-again c =
     let walk = c .before .before in
-    let at = walk .before .before .before in
+    let at = walk .before .before in
     let start = at .before in
-    let (width, last) = at .loop .inv in
     let (hours, work) = start .pre in
-    let end = end-moderate (sideOf (start .args .side)) hours work (walk .before .lowest .result) in
+    let end = end-moderate (sideOf (start .args .side)) hours work (walk .take-lowest .result .member) in
     let end-is = toZ-ofZ w32 _ (record { sfits = c .before .end .ok }) ∙ c .before .end .ensures in
     let last-is = toZ-ofZ w32 _ (record { sfits = c .greater .ok }) ∙ (rw end-is at (c .greater .ensures)) in
-    (rw (walk .without-lowest .ensures) (without-lt 64 _ _ width), rw last-is (moderate _ _ last end))
+    rw last-is (moderate _ _ (at .loop .inv) end)
 
 returns : tie.Need-returns Inv-loop μ-loop
-returns c = c .before .loop .inv .1
+returns c = c .before .loop .inv
 
 pub last-end-spec : {M : Type 1} → statement M
 last-end-spec =
@@ -56,7 +47,6 @@ last-end-spec =
     (λ c κs. search needs)
     (λ c κs. search needs)
     (λ c κs. search needs)
-    (λ c κs. search needs)
-    loop-less
+    (λ c. search needs)
     loop-again
     returns)

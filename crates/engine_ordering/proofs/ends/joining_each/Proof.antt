@@ -1,27 +1,14 @@
 -- `engine_ordering::ends::joining_each` meets its contract, which says nothing: it ends. The measure is the word of the jobs that are left.
 -- Assumes nothing.
 use borrow.Author.Needs.{needs}
-use Prim.Native.Nat.{_<_, _^_}
-use Rattle.ground_sets.specs.BitLaws.{without-lt}
-use Rattle.ground_sets.specs.Walk.{walk-falls}
 use Rattle.engine_ordering.proofs.ends.joining_each.Statement.{statement}
 use Rattle.engine_ordering.proofs.ends.joining_each.Tie as tie
 
 abbrev Inv-loop : tie.InvT-loop
-Inv-loop job set beyond opposite found₀ left₀ found left = left < 2 ^ 64
+Inv-loop job set beyond opposite found₀ left₀ found left = Unit
 
 abbrev μ-loop : tie.MeasureT-loop
 μ-loop job set beyond opposite found₀ left₀ found left = left
-
-loop-less : tie.Need-loop-less Inv-loop μ-loop
-loop-less c =
-    let walk = c .before .before in
-    walk-falls (walk .before .before .before .loop .inv) (walk .before .lowest .ensures) (walk .without-lowest .ensures)
-
-loop-again : tie.Need-loop-again Inv-loop μ-loop
-loop-again c =
-    let walk = c .before .before in
-    rw (walk .without-lowest .ensures) (without-lt 64 _ _ (walk .before .before .before .loop .inv))
 
 pub joining-each-spec : {M : Type 1} → statement M
 joining-each-spec =
@@ -29,11 +16,10 @@ joining-each-spec =
     (tie.spec
     Inv-loop
     μ-loop
-    (λ c. c .fits .set .fits)
+    (λ c. search needs)
     (λ c κs. search needs)
     (λ c κs. search needs)
     (λ c κs. search needs)
-    (λ c κs. search needs)
-    loop-less
-    loop-again
+    (λ c. search needs)
+    (λ c. search needs)
     (λ c. search needs))

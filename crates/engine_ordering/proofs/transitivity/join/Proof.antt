@@ -1,9 +1,6 @@
 -- `engine_ordering::transitivity::join` meets its contract: R1 infers each arc that it sets. Assumes nothing.
 use borrow.Author.Needs.{needs}
-use mathlib.Core.Path.{_≡_}
-use mathlib.Core.Bool.{true}
-use Rattle.ground_sets.specs.Bit.{bit}
-use Rattle.paper_board.specs.Tests.Sets.{ToCome, to-come, fewer, subset-intersection}
+use Rattle.paper_board.specs.Tests.Sets.{Subset, subset-intersection}
 use Rattle.engine_ordering.specs.Arcs.{Sound, sound-none}
 use Rattle.engine_ordering.specs.Transitivity.{missing, Forth, joined}
 use Rattle.engine_ordering.proofs.transitivity.join.Statement.{statement}
@@ -11,7 +8,7 @@ use Rattle.engine_ordering.proofs.transitivity.join.Tie as tie
 
 abbrev Inv-loop : tie.InvT-loop
 Inv-loop before₀ after₀ from through live all gap left₀ before after left =
-    ToCome (λ to. bit (missing after₀ from through) to ≡ true) left
+    Subset left (missing after₀ from through)
     × Sound (Forth from through) before₀ after₀ before after
 
 abbrev μ-loop : tie.MeasureT-loop
@@ -19,26 +16,21 @@ abbrev μ-loop : tie.MeasureT-loop
 
 loop-holds : tie.Need-loop-holds Inv-loop μ-loop
 loop-holds c = (
-  to-come (c .intersection .ok) λ x e.
+  λ x e.
       let all = c .before in
       rw (all .difference .ensures, all .before .before .without .ensures) at (subset-intersection _ _ .0 x (rw (c .intersection .ensures) at e)),
   sound-none (Forth _ _) _ _,
 )
 
-loop-less : tie.Need-loop-less Inv-loop μ-loop
-loop-less c =
-    let walk = c .before .before .before in
-    fewer (walk .before .before .before .loop .inv .0) (walk .before .lowest .ensures) (walk .without-lowest .ensures) .1
-
 loop-again : tie.Need-loop-again Inv-loop μ-loop
 loop-again c =
     let walk = c .before .before .before in
-    let at = walk .before .before .before in
+    let at = walk .before .before in
     let (left, run) = at .loop .inv in
-    let low = walk .before .lowest .ensures in
+    let taken = walk .take-lowest .ensures in
     let place = at .before .before .before .before .before .before .pre .0 in (
-      fewer left low (walk .without-lowest .ensures) .0,
-      joined _ _ _ _ _ _ place run _ (left .member _ (low .member)) _ _ (c .link .ensures .0) (c .link .ensures .1),
+      λ x e. left x (taken .inside x e),
+      joined _ _ _ _ _ _ place run _ (left _ (taken .member)) _ _ (c .link .ensures .0) (c .link .ensures .1),
     )
 
 returns : tie.Need-returns Inv-loop μ-loop
@@ -60,7 +52,6 @@ join-spec =
     loop-holds
     (λ c κs. search needs)
     (λ c κs. search needs)
-    (λ c κs. search needs)
-    loop-less
+    (λ c. search needs)
     loop-again
     returns)

@@ -1,37 +1,29 @@
 -- `engine_ordering::transitivity::join_through` meets its contract: one row after the other. Assumes nothing.
 use borrow.Author.Needs.{needs}
-use mathlib.Core.Path.{_≡_}
-use mathlib.Core.Bool.{true}
-use Rattle.ground_sets.specs.Bit.{bit}
-use Rattle.paper_board.specs.Tests.Sets.{ToCome, to-come, fewer}
+use Rattle.paper_board.specs.Tests.Sets.{Subset}
 use Rattle.engine_ordering.specs.Arcs.{Sound, sound-none}
 use Rattle.engine_ordering.specs.Transitivity.{Through, row-joined}
 use Rattle.engine_ordering.proofs.transitivity.join_through.Statement.{statement}
 use Rattle.engine_ordering.proofs.transitivity.join_through.Tie as tie
 
 abbrev Inv-loop : tie.InvT-loop
-Inv-loop before₀ after₀ sources through live found₀ left₀ before after found left = ToCome (λ from. bit sources from ≡ true) left × Sound (Through through) before₀ after₀ before after
+Inv-loop before₀ after₀ sources through live found₀ left₀ before after found left = Subset left sources × Sound (Through through) before₀ after₀ before after
 
 abbrev μ-loop : tie.MeasureT-loop
 μ-loop before₀ after₀ sources through live found₀ left₀ before after found left = left
 
 loop-holds : tie.Need-loop-holds Inv-loop μ-loop
-loop-holds c = (to-come (c .before .fits .sources .fits) (λ x e. e), sound-none (Through _) _ _)
-
-loop-less : tie.Need-loop-less Inv-loop μ-loop
-loop-less c =
-    let walk = c .before .before .before .before .before .before .before in
-    fewer (walk .before .before .before .loop .inv .0) (walk .before .lowest .ensures) (walk .without-lowest .ensures) .1
+loop-holds c = (λ x e. e, sound-none (Through _) _ _)
 
 loop-again : tie.Need-loop-again Inv-loop μ-loop
 loop-again c =
     let joined = c .before .before .before .before in
     let walk = joined .before .before .before in
-    let at = walk .before .before .before in
+    let at = walk .before .before in
     let (left, run) = at .loop .inv in
-    let low = walk .before .lowest .ensures in
-    let member = at .before .before .pre .1 _ (left .member _ (low .member)) in
-    (fewer left low (walk .without-lowest .ensures) .0, row-joined _ _ _ _ _ run _ member _ _ (joined .join .ensures))
+    let taken = walk .take-lowest .ensures in
+    let member = at .before .before .pre .1 _ (left _ (taken .member)) in
+    (λ x e. left x (taken .inside x e), row-joined _ _ _ _ _ run _ member _ _ (joined .join .ensures))
 
 returns : tie.Need-returns Inv-loop μ-loop
 returns c = c .before .loop .inv .1
@@ -48,7 +40,6 @@ join-through-spec =
     (λ c κs. search needs)
     (λ c κs. search needs)
     (λ c κs. search needs)
-    (λ c κs. search needs)
-    loop-less
+    (λ c. search needs)
     loop-again
     returns)

@@ -18,7 +18,7 @@ returns-2 : tie.Need-returns-2
 returns-2 c =
     let met = c .before .before .before .before .intersection in
     let a = c .before .before .before .before .before .args in
-    all-joined (a .afters .now) (a .i) (a .valid) (a .after) (met .result) (met .ensures) (met .ok)
+    all-joined (a .afters .now) (a .i) (a .valid) (a .after) (met .result) (met .ensures)
 
 pub joined-spec : {M : Type 1} → statement M
 joined-spec =

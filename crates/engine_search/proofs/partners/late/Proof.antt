@@ -4,10 +4,9 @@ use mathlib.Core.Path.{sym, _∙_}
 use mir.Syntax.{w32}
 use mir.Val.{toZ, ofZ}
 use mir.ValLaws.{toZ-ofZ}
-use Rattle.ground_sets.specs.Walk.{walk-falls, visited}
+use Rattle.ground_sets.specs.Walk.{lowest-taken, visited}
 use Rattle.ground_arithmetic.specs.Bools.{refuted}
 use Rattle.ground_arithmetic.specs.Linear.{whole}
-use Rattle.paper_board.specs.Paper.Limits.{jobLimit}
 use Rattle.engine_search.specs.Partners.{LateLeft, InTime}
 use borrow.Author.Needs.{needs}
 use Rattle.engine_search.proofs.partners.late.Statement.{statement}
@@ -20,7 +19,7 @@ abbrev μ-loop : tie.MeasureT-loop
 μ-loop set end latest lengths left₀ left = left
 
 loop-holds : tie.Need-loop-holds Inv-loop μ-loop
-loop-holds c = record { width = c .fits .set .fits; member = λ k e. e; done = λ k e out. absurd (refuted out e) }
+loop-holds c = record { member = λ k e. e; done = λ k e out. absurd (refuted out e) }
 
 ends-late-requires : tie.Need-ends-late-requires Inv-loop μ-loop
 ends-late-requires c κs =
@@ -33,19 +32,14 @@ returns c =
     let at = c .before .before .before .before in
     rw (toZ-ofZ w32 _ (at .before .fits .end)) at (at .loop .inv)
 
-loop-less : tie.Need-loop-less Inv-loop μ-loop
-loop-less c =
-    let low = c .before .before .before in
-    walk-falls (low .before .before .loop .inv .width) (low .lowest .ensures) (c .without-lowest .ensures)
-
 loop-again : tie.Need-loop-again Inv-loop μ-loop
 loop-again c =
-    let low = c .before .before .before in
-    let k = low .lowest .result in
-    let at = low .before .before in
+    let test = c .before .before in
+    let low = test .before .lowest in
+    let at = test .before .before .before in
     let a = at .before .args in
-    let timely : InTime (a .latest .now) (a .lengths .now) (toZ w32 (ofZ w32 (a .end))) k = omega (whole, sym (c .before .before .ends-late .ensures) ∙ c .before .if1 .left) in
-    rw (c .without-lowest .ensures) (visited jobLimit _ _ (at .loop .left) k (at .loop .inv) (low .lowest .ensures) timely)
+    let timely : InTime (a .latest .now) (a .lengths .now) (toZ w32 (ofZ w32 (a .end))) (low .result) = omega (whole, sym (test .ends-late .ensures) ∙ c .before .if1 .left) in
+    visited (at .loop .inv) (lowest-taken (low .ensures) (c .take-lowest .ensures)) timely
 
 returns-2 : tie.Need-returns-2 Inv-loop μ-loop
 returns-2 c = rw (toZ-ofZ w32 _ (c .before .before .fits .end)) at (c .before .loop .inv)
@@ -61,6 +55,6 @@ late-spec =
     ends-late-requires
     returns
     (λ c κs. search needs)
-    loop-less
+    (λ c. search needs)
     loop-again
     returns-2)

@@ -2,15 +2,13 @@
 -- so far. The measure is the word of what is left. Assumes nothing.
 use mathlib.Core.Path.{_≡_, _∙_}
 use mathlib.Core.Bool.{true, false}
-use Prim.Native.Nat.{ℕ, _<_, _^_}
+use Prim.Native.Nat.{ℕ}
 use mir.Syntax.{w32}
 use mir.Val.{toZ}
 use mir.ValLaws.{toZ-ofZ}
 use Rattle.ground_sets.specs.Bit.{bit}
-use Rattle.ground_sets.specs.BitLaws.{bit-zero, without-lt}
-use Rattle.ground_sets.specs.Walk.{walk-falls}
+use Rattle.ground_sets.specs.BitLaws.{bit-zero}
 use Rattle.ground_arithmetic.specs.Bools.{refuted}
-use Rattle.paper_board.specs.Paper.Limits.{jobLimit}
 use Rattle.paper_board.specs.Tests.Ranges.{time-moderate}
 use Rattle.engine_energy.specs.Laws.{time-fits, length-fits, length-moderate}
 use Rattle.engine_search.specs.Partners.{InTime, in-time-lesser}
@@ -20,42 +18,35 @@ use Rattle.engine_search.proofs.partners.latest_start.Tie as tie
 
 abbrev Inv-loop : tie.InvT-loop
 Inv-loop set latest lengths least₀ left₀ least left =
-    (left < 2 ^ jobLimit) × ((k : ℕ) → bit set k ≡ true → bit left k ≡ false → InTime latest lengths (toZ w32 least) k)
+    (k : ℕ) → bit set k ≡ true → bit left k ≡ false → InTime latest lengths (toZ w32 least) k
 
 abbrev μ-loop : tie.MeasureT-loop
 μ-loop set latest lengths least₀ left₀ least left = left
 
 loop-holds : tie.Need-loop-holds Inv-loop μ-loop
-loop-holds c = (c .fits .set .fits, λ k e out. absurd (refuted out e))
+loop-holds c = λ k e out. absurd (refuted out e)
 
 gap-requires : tie.Need-gap-requires Inv-loop μ-loop
 gap-requires c κs =
-    let low = c .before .before .before in
-    let (ends, work) = low .before .before .before .pre in
-    let k = low .lowest .result in
+    let walk = c .before .before in
+    let (ends, work) = walk .before .before .before .pre in
+    let k = walk .take-lowest .result .member in
     simp (toZ-ofZ, time-fits (ends .time k), length-fits work k) (time-moderate (ends .time k), length-moderate work k)
-
-loop-less : tie.Need-loop-less Inv-loop μ-loop
-loop-less c =
-    let next = c .before .before .before .before in
-    walk-falls (next .before .before .before .loop .inv .0) (next .before .lowest .ensures) (next .without-lowest .ensures)
 
 loop-again : tie.Need-loop-again Inv-loop μ-loop
 loop-again c =
-    let next = c .before .before .before .before in
-    let low = next .before .lowest in
-    let k = low .result in
-    let at = next .before .before .before in
+    let walk = c .before .before .before .before in
+    let k = walk .take-lowest .result .member in
+    let at = walk .before .before in
     let a = at .before .args in
     let (ends, work) = at .before .pre in
-    let (fits, timely) = at .loop .inv in
     let gap = c .before .gap in
     let gap-is = toZ-ofZ w32 _ (record { sfits = gap .ok }) ∙ simp (toZ-ofZ, time-fits (ends .time k), length-fits work k) at (gap .ensures) in
     let least = toZ-ofZ w32 _ (record { sfits = c .lesser .ok }) ∙ (rw gap-is at (c .lesser .ensures)) in
-    rw (next .without-lowest .ensures, least) (without-lt jobLimit (at .loop .left) k fits, in-time-lesser (a .latest .now) (a .lengths .now) (a .set) (at .loop .left) k (toZ w32 (at .loop .least)) fits (low .ensures) timely)
+    rw least (in-time-lesser (a .latest .now) (a .lengths .now) (a .set) (toZ w32 (at .loop .least)) (walk .take-lowest .ensures) (at .loop .inv))
 
 returns : tie.Need-returns Inv-loop μ-loop
-returns c = λ k e. c .before .loop .inv .1 k e (rw (c .loop-test .left) (bit-zero k))
+returns c = λ k e. c .before .loop .inv k e (rw (c .loop-test .left) (bit-zero k))
 
 pub latest-start-spec : {M : Type 1} → statement M
 latest-start-spec =
@@ -65,13 +56,12 @@ latest-start-spec =
     μ-loop
     loop-holds
     (λ c κs. search needs)
-    (λ c κs. search needs)
     (λ c. search needs)
     (λ c. search needs)
     (λ c. search needs)
     (λ c. search needs)
     gap-requires
     (λ c κs. search needs)
-    loop-less
+    (λ c. search needs)
     loop-again
     returns)

@@ -13,10 +13,9 @@ returns c =
     let both = c .before .before .before .excluded in
     let through = c .before .before .joined in
     let end = simp (toZ-ofZ, start .fits .end) at (late .ordered .ensures) in
-    let all = c .union2 in
-    rw (all .ensures, c .before .union .ensures)
+    rw (c .union2 .ensures, c .before .union .ensures)
     (row-left (a .i) (a .live) (a .valid) (a .before) (a .after) (a .end) (a .latest .now) (a .lengths .now) (a .afters .now)
-    (late .ordered .result) (both .result) (through .result) end (both .ensures) (through .ensures) (rw (all .ensures, c .before .union .ensures) at (all .ok)))
+    (late .ordered .result) (both .result) (through .result) end (both .ensures) (through .ensures))
 
 pub partners-spec : {M : Type 1} → statement M
 partners-spec =

@@ -12,30 +12,20 @@ Inv-loop set after all₀ left₀ all left = Looked after set left all
 abbrev μ-loop : tie.MeasureT-loop
 μ-loop set after all₀ left₀ all left = left
 
--- from the union to the job that is looked at
-abbrev low-of : tie.After-union Inv-loop μ-loop → tie.After-lowest Inv-loop μ-loop
-low-of c = c .before .before
-
 loop-holds : tie.Need-loop-holds Inv-loop μ-loop
 loop-holds c = none-looked (c .args .after .now) (c .args .set) (c .fits .set .fits)
 
 loop-less : tie.Need-loop-less Inv-loop μ-loop
 loop-less c =
-    let low = low-of (c .before .before) in
-    let at = low .before .before in
-    let a = at .before .args in
-    let joined = c .before .before .union in
-    rw (c .difference .ensures, c .before .without-lowest .ensures, joined .ensures)
-    (look-falls (a .after .now) (a .set) (at .loop .left) (at .loop .all) (low .lowest .result) (at .loop .inv) (low .lowest .ensures) (rw (joined .ensures) at (joined .ok)))
+    let joined = c .before .union in
+    let walk = c .before .before .before in
+    rw (c .difference .ensures, joined .ensures) (look-falls (walk .before .before .loop .inv) (walk .take-lowest .ensures) (rw (joined .ensures) at (joined .ok)))
 
 loop-again : tie.Need-loop-again Inv-loop μ-loop
 loop-again c =
-    let low = low-of (c .before .before) in
-    let at = low .before .before in
-    let a = at .before .args in
-    let joined = c .before .before .union in
-    rw (c .difference .ensures, c .before .without-lowest .ensures, joined .ensures)
-    (look (a .after .now) (a .set) (at .loop .left) (at .loop .all) (low .lowest .result) (at .loop .inv) (low .lowest .ensures) (rw (joined .ensures) at (joined .ok)))
+    let joined = c .before .union in
+    let walk = c .before .before .before in
+    rw (c .difference .ensures, joined .ensures) (look (walk .before .before .loop .inv) (walk .take-lowest .ensures) (rw (joined .ensures) at (joined .ok)))
 
 returns : tie.Need-returns Inv-loop μ-loop
 returns c = λ x e. c .before .loop .inv .done x e (rw (c .loop-test .left) (bit-zero x))
@@ -50,7 +40,6 @@ reach-spec =
     (λ c κs. search needs)
     (λ c. search needs)
     (λ c. search needs)
-    (λ c κs. search needs)
     (λ c κs. search needs)
     (λ c κs. search needs)
     loop-less

@@ -1,4 +1,4 @@
--- `call_enter::conclude` meets its contract: shown already, impossible, or closed. Assumes nothing.
+-- `call_enter::decide` meets its contract: shown already, impossible, or closed. Assumes nothing.
 use mathlib.Core.Path.{refl, _∙_}
 use borrow.Author.Needs.{needs}
 use borrow.Author.Tests.{not-true, not-false}
@@ -6,8 +6,8 @@ use Rattle.paper_board.specs.Paper.Limits.{Within}
 use Rattle.paper_closure.specs.Checked.{passes-within}
 use Rattle.call_statements.specs.Stated.{placed}
 use Rattle.call_enter.specs.Concluded.{shown-already, is-impossible, is-possible}
-use Rattle.call_enter.proofs.conclude.Statement.{statement}
-use Rattle.call_enter.proofs.conclude.Tie as tie
+use Rattle.call_enter.proofs.decide.Statement.{statement}
+use Rattle.call_enter.proofs.decide.Tie as tie
 
 -- places that the answers look back to
 abbrev start : tie.After-attempt → tie.Start
@@ -50,8 +50,8 @@ returns-3 c =
     let counted = tried .before .before .before .before .before .before .before .before .before .before .before .before .before .jobs-with .ensures in
     rw counted (is-possible _ _ _ (tried .attempt .result) _ (tried .attempt .ensures (at .args .t1) refl (within at)) (not-false (tried .attempt .result) (c .before .if2 .left)))
 
-pub conclude-spec : {M : Type 1} → statement M
-conclude-spec =
+pub decide-spec : {M : Type 1} → statement M
+decide-spec =
     tie.close
     (tie.spec
     is-shown-requires
