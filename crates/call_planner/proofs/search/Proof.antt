@@ -8,6 +8,7 @@ use lib.ListN.{getD, set}
 use mir.Syntax.{w32}
 use mir.Val.{toZ, SFits}
 use mir.ValLaws.{toZ-ofZ}
+use borrow.Author.Needs.{needs}
 use Rattle.ground_sets.specs.Bit.{bit, with, without, width}
 use Rattle.ground_arithmetic.specs.Time.{greater}
 use Rattle.paper_board.specs.Paper.Limits.{IsTime}
@@ -98,9 +99,16 @@ finish-is c =
     simp (toZ-ofZ, time-fits (start-time g), length-fits (lengths-within b (start .pre .0)) j) at (c .sum .ensures)
     ∙ ap (λ (z : ℤ). z +ℤ L (view b) j) starts
 
+abbrev tried : tie.After-places Inv-loop μ-loop → tie.After-take-lowest Inv-loop μ-loop
+tried c = picked (c .before .before .before)
+
+-- a job that is placed has a place in the lists
+place-room : (c : tie.After-places Inv-loop μ-loop) → head (tried c) .before .loop .depth < 64
+place-room c = depth-room (head (tried c))
+
 -- what the test says of the try
 tested : (c : tie.After-places Inv-loop μ-loop)
-    → let n = picked (c .before .before .before) in
+    → let n = tried c in
     let l = head n .before .loop in
     let b = head n .before .before .args .t1 in
     let ps = stack (at (l .jobs)) (l .depth) in
@@ -138,9 +146,6 @@ loop-holds : tie.Need-loop-holds Inv-loop μ-loop
 loop-holds c =
     let b = c .args .t1 in
     at-start b (c .pre .0) (c .args .valid) (λ k. ap (λ (x : ℕ). bit x k) (c .pre .1) ∙ bit-valid b k) (c .args .budget)
-
-unplanned-requires : tie.Need-unplanned-requires Inv-loop μ-loop
-unplanned-requires c κs = tt
 
 returns : tie.Need-returns Inv-loop μ-loop
 returns c =
@@ -185,9 +190,6 @@ loop-again c =
     let s = went-back (c .before .before) in
     rw (c .before .with .ensures) (simp (toZ-ofZ, time-fits (s .dock .time)) s)
 
-unplanned-requires-2 : tie.Need-unplanned-requires-2 Inv-loop μ-loop
-unplanned-requires-2 c κs = tt
-
 returns-2 : tie.Need-returns-2 Inv-loop μ-loop
 returns-2 c =
     let s = c .before .before .before in
@@ -206,9 +208,6 @@ mul-greater c = let j = c .take-lowest .ensures .width in record { fits = omega 
 element-copy-out-greater : tie.Need-element-copy-out-greater Inv-loop μ-loop
 element-copy-out-greater c = c .take-lowest .ensures .width
 
-greater-requires : tie.Need-greater-requires Inv-loop μ-loop
-greater-requires c κs = tt
-
 mul-sum : tie.Need-mul-sum Inv-loop μ-loop
 mul-sum c = let j = c .before .before .take-lowest .ensures .width in record { fits = omega (arith, j) }
 
@@ -225,48 +224,25 @@ sum-requires c κs =
     simp (toZ-ofZ, time-fits t, length-fits (lengths-within b (start .pre .0)) (n .take-lowest .result .member)) (time-moderate t, length-moderate r)
 
 mul-places : tie.Need-mul-places Inv-loop μ-loop
-mul-places c = let j = c .before .before .before .before .take-lowest .ensures .width in record { fits = omega (arith, j) }
+mul-places c = let j = picked c .take-lowest .ensures .width in record { fits = omega (arith, j) }
 
 element-copy-out-places : tie.Need-element-copy-out-places Inv-loop μ-loop
-element-copy-out-places c = c .before .before .before .before .take-lowest .ensures .width
+element-copy-out-places c = picked c .take-lowest .ensures .width
 
 mul-places-2 : tie.Need-mul-places-2 Inv-loop μ-loop
-mul-places-2 c = let j = c .before .before .before .before .before .take-lowest .ensures .width in record { fits = omega (arith, j) }
+mul-places-2 c = let j = picked (c .before) .take-lowest .ensures .width in record { fits = omega (arith, j) }
 
 element-copy-out-places-2 : tie.Need-element-copy-out-places-2 Inv-loop μ-loop
-element-copy-out-places-2 c = c .before .before .before .before .before .take-lowest .ensures .width
-
-places-requires : tie.Need-places-requires Inv-loop μ-loop
-places-requires c κs = tt
-
-mul-jobs : tie.Need-mul-jobs Inv-loop μ-loop
-mul-jobs c = record { fits = omega (arith, depth-room (c .before .before .before .before .before .before .before .before .before .before .before)) }
-
-array-write-jobs : tie.Need-array-write-jobs Inv-loop μ-loop
-array-write-jobs c = depth-room (c .before .before .before .before .before .before .before .before .before .before .before)
-
-mul-lefts : tie.Need-mul-lefts Inv-loop μ-loop
-mul-lefts c = record { fits = omega (arith, depth-room (c .before .before .before .before .before .before .before .before .before .before .before)) }
-
-array-write-lefts : tie.Need-array-write-lefts Inv-loop μ-loop
-array-write-lefts c = depth-room (c .before .before .before .before .before .before .before .before .before .before .before)
-
-mul-frees : tie.Need-mul-frees Inv-loop μ-loop
-mul-frees c = record { fits = omega (arith, depth-room (c .before .before .before .before .before .before .before .before .before .before .before)) }
-
-array-set-from-frees : tie.Need-array-set-from-frees Inv-loop μ-loop
-array-set-from-frees c = depth-room (c .before .before .before .before .before .before .before .before .before .before .before)
-
-add-depth : tie.Need-add-depth Inv-loop μ-loop
-add-depth c = record { fits = omega (arith, depth-room (c .before .before .before .before .before .before .before .before .before .before .before)) }
+element-copy-out-places-2 c = picked (c .before) .take-lowest .ensures .width
 
 without-requires : tie.Need-without-requires Inv-loop μ-loop
-without-requires c κs = c .before .before .before .before .before .before .before .before .take-lowest .ensures .width
+without-requires c κs = tried (c .before) .take-lowest .ensures .width
 
 loop-less-2 : tie.Need-loop-less-2 Inv-loop μ-loop
 loop-less-2 c =
-    let more = c .before .before .before .before .before .before .before .before .before .before .if3 .left in
-    omega (arith, more, held (c .before .before .before .before .before .before .before .before .before .before .before .before) .affordable)
+    let n = tried (c .before .before) in
+    let more = n .before .if3 .left in
+    omega (arith, more, held (head n) .affordable)
 
 loop-again-2 : tie.Need-loop-again-2 Inv-loop μ-loop
 loop-again-2 c =
@@ -277,12 +253,13 @@ loop-again-2 c =
 
 loop-less-3 : tie.Need-loop-less-3 Inv-loop μ-loop
 loop-less-3 c =
-    let more = c .before .before .before .before .before .before .before .before .before .if3 .left in
-    omega (arith, more, held (c .before .before .before .before .before .before .before .before .before .before .before) .affordable)
+    let n = tried (c .before) in
+    let more = n .before .if3 .left in
+    omega (arith, more, held (head n) .affordable)
 
 loop-again-3 : tie.Need-loop-again-3 Inv-loop μ-loop
 loop-again-3 c =
-    let n = picked (c .before .before .before .before) in
+    let n = tried (c .before) in
     let s = head n in
     let more = n .before .if3 .left in
     tried-in-vain _ (s .before .before .pre .0) _ _ _ _ _ _ _ _ _ (held s) (s .loop-test .taken) (n .take-lowest .ensures)
@@ -309,7 +286,7 @@ search-spec =
     Inv-loop
     μ-loop
     loop-holds
-    unplanned-requires
+    (λ c κs. search needs)
     returns
     sub-depth
     mul-with
@@ -321,13 +298,13 @@ search-spec =
     array-copy-out-free
     loop-less
     loop-again
-    unplanned-requires-2
+    (λ c κs. search needs)
     returns-2
     add-tries
     take-lowest-requires
     mul-greater
     element-copy-out-greater
-    greater-requires
+    (λ c κs. search needs)
     mul-sum
     element-copy-out-sum
     sum-requires
@@ -335,14 +312,14 @@ search-spec =
     element-copy-out-places
     mul-places-2
     element-copy-out-places-2
-    places-requires
-    mul-jobs
-    array-write-jobs
-    mul-lefts
-    array-write-lefts
-    mul-frees
-    array-set-from-frees
-    add-depth
+    (λ c κs. search needs)
+    (λ c. record { fits = omega (arith, place-room (c .before)) })
+    (λ c. place-room (c .before))
+    (λ c. record { fits = omega (arith, place-room (c .before)) })
+    (λ c. place-room (c .before))
+    (λ c. record { fits = omega (arith, place-room (c .before)) })
+    (λ c. place-room (c .before))
+    (λ c. record { fits = omega (arith, place-room (c .before)) })
     without-requires
     loop-less-2
     loop-again-2

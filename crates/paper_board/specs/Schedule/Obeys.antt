@@ -13,7 +13,7 @@ use Rattle.paper_board.specs.Paper.Rules.{energy}
 use Rattle.paper_board.specs.Inference.Infers.{Pushing, r1, r2, r3, r45, r6, Obeys}
 use Rattle.paper_board.specs.Inference.Forced.{valid-live}
 use Rattle.paper_board.specs.Paper.Entries.{Entries, Admissible}
-use Rattle.paper_board.specs.Paper.Schedules.{Placing, Placed, Schedule}
+use Rattle.paper_board.specs.Paper.Schedules.{Placing, Schedule}
 use Rattle.paper_board.specs.Schedule.Scheduled.{scheduled, live-placed, arc-read, arc-show}
 
 -- Each live job takes time and fills its window, and of any two one has an arc to the other. A job that has an arc to
@@ -108,17 +108,12 @@ module _ (v : View) (line : InLine v) where
 pub scheduled-obeys : (es : Entries) (p : Placing) → Admissible es → Schedule es p → Obeys (scheduled es p)
 scheduled-obeys es p ok h = in-line-obeys (scheduled es p) in-line
   where
-    placed : (j : ℕ) → Live (scheduled es p) j → Placed p j
-    placed = live-placed es p
-
     in-line : InLine (scheduled es p)
     in-line =
         record {
-          positive = λ j l. rw (placed j l) (ok .rows j (l .0) (λ m. refuted (h .invalid j (l .0) m) (placed j l)) .length .low);
-          filled = λ j l. rw (placed j l);
-          follows = λ i k li lk a. rw (placed i li, placed k lk) (arc-read es p i k a .2);
-          linked = λ i k li lk ne. ⊎-map
-              (arc-show es p i k (placed i li) (placed k lk))
-              (arc-show es p k i (placed k lk) (placed i li))
-              (h .apart i k (placed i li) (placed k lk) ne);
+          positive = λ j l. let placed = live-placed es p j l in rw placed (ok .rows j (l .0) (λ m. refuted (h .invalid j (l .0) m) placed) .length .low);
+          filled = λ j l. rw (live-placed es p j l);
+          follows = λ i k li lk a. let (ei, ek, apart) = arc-read es p i k a in rw (ei, ek) apart;
+          linked = λ i k li lk ne.
+              ⊎-map (arc-show es p i k li lk) (arc-show es p k i lk li) (h .apart i k (live-placed es p i li) (live-placed es p k lk) ne);
         }

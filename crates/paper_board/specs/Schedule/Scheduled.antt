@@ -43,5 +43,5 @@ module _ (es : Entries) (p : Placing) where
       let (e, d) = and-parts (p .placed i) (p .placed k) both in
       (e, d, omega whole)
 
-  pub arc-show : (i k : ℕ) → Placed p i → Placed p k → end es p i ≤ℤ p .start k → Arc (scheduled es p) i k
-  arc-show i k e d h = rw (e, d) (omega whole)
+  pub arc-show : (i k : ℕ) → Live (scheduled es p) i → Live (scheduled es p) k → end es p i ≤ℤ p .start k → Arc (scheduled es p) i k
+  arc-show i k li lk h = rw (live-placed i li, live-placed k lk) (omega whole)

@@ -6,12 +6,12 @@ use native.Mathlib.Omega.{arith}
 use borrow.Author.Tests.{lt-ltb}
 use Rattle.ground_arithmetic.specs.Bools.{is-false, refuted}
 use Rattle.ground_arithmetic.specs.Linear.{whole}
-use Rattle.paper_board.specs.Paper.View.{View, Live, early, late}
+use Rattle.paper_board.specs.Paper.View.{View, early, late}
 use Rattle.paper_board.specs.Paper.Facts.{Fact, is-arc, is-bound, is-valid, is-invalid, Holds, Known}
 use Rattle.paper_board.specs.Order.Laws.{shown-invalid}
 use Rattle.paper_board.specs.Inference.Forced.{valid-live}
 use Rattle.paper_board.specs.Paper.Entries.{Entries, Admissible, Shown, Shows, Drawn, drawn, shown, _⊑_}
-use Rattle.paper_board.specs.Paper.Schedules.{Placing, Placed, Respects, Schedule, Keeps}
+use Rattle.paper_board.specs.Paper.Schedules.{Placing, Respects, Schedule, Keeps}
 use Rattle.paper_board.specs.Schedule.Keeps.{keeps-schedule}
 use Rattle.paper_board.specs.Schedule.Scheduled.{placedRow, absentRow, scheduled, live-placed, arc-read, arc-show}
 
@@ -39,14 +39,10 @@ scheduled-shows es p ok h =
     row k l false e =
         shown-invalid (es .row k) (absentRow es k) (λ m. refuted e (h .valid k l m)) (rw (lt-ltb k (es .jobs) l))
 
-    placed : (j : ℕ) → Live (scheduled es p) j → Placed p j
-    placed = live-placed es p
-
     fact : (f : Fact) → Known (es .jobs) f → Respects es p f → Holds (scheduled es p) f
-    fact (is-arc i k) (li, lk, ne) r =
-        (li, lk, λ a b. arc-show es p i k (placed i a) (placed k b) (r (placed i a) (placed k b)))
-    fact (is-bound early j z) l r = (l, λ a. rw (placed j a) (r (placed j a)))
-    fact (is-bound late j z) l r = (l, λ a. rw (placed j a) (r (placed j a)))
+    fact (is-arc i k) (li, lk, ne) r = (li, lk, λ a b. arc-show es p i k a b (r (live-placed es p i a) (live-placed es p k b)))
+    fact (is-bound early j z) l r = (l, λ a. let placed = live-placed es p j a in rw placed (r placed))
+    fact (is-bound late j z) l r = (l, λ a. let placed = live-placed es p j a in rw placed (r placed))
     fact (is-valid j) l r = (l, rw r)
     fact (is-invalid j) l r = (l, rw (r, lt-ltb j (es .jobs) l))
 
