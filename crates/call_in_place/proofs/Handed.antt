@@ -1,4 +1,5 @@
--- What a call by value hands back: a struct of an answer and a board, whatever type the answer has.
+-- What a call by value hands back: a struct of an answer and a board, whatever type the answer has. And for the entry calls what
+-- they take, an entry, and what they hand back.
 -- Assumes nothing.
 use mathlib.Core.Path.{_≡_}
 use mathlib.Core.List.{List, [], _∷_}
@@ -43,7 +44,8 @@ pub record Handed : Type 2 where
 abbrev pub both-mir : Handed → Ty
 both-mir G = tyStruct (G .name) (tcons (G .Reply .mir) (tcons B′.mir tnil))
 
--- an entry; the answer of an entry call, an answer and a board as one, and what such a call hands back
+-- ---- of the entry calls
+
 abbrev pub entry : Plain
 entry = enum N.the-type N′.the-laws tt N′.the-plain N′.the-copy
 

@@ -119,11 +119,7 @@ unfolding Next
 lowest-taken {n} {w} {j} {k} {rest} low taken = subst⁻¹ (λ x. Takes n false w x rest) (same (decLt j k) (decLt k j)) taken
   where
     above : (x y : ℕ) → Lowest n w x → Lowest n w y → x < y → ⊥
-    above x y a b less =
-        let out = b .least x less in
-        let has = a .member in
-        let clash : _≡_ {A = ℕ} 0 1 = cc in
-        omega arith
+    above x y a b less = true≢false (sym (a .member) ∙ b .least x less)
 
     same : Dec (j < k) → Dec (k < j) → j ≡ k
     same (yes less) _ = absurd (above j k low (taken .next) less)

@@ -15,7 +15,7 @@ use Rattle.text_formats.specs.Exact.{scannable, AllShort, scanned-is-filled}
 use Rattle.text_formats.specs.Format.{numberMark, scan, marks}
 use Rattle.text_formats.specs.Scan.{places, placed}
 use Rattle.text_forms.specs.declared.Form.{Form}
-use Rattle.text_forms.specs.declared.table.Found.{Found}
+use Rattle.text_forms.specs.declared.table.Match.{Match}
 use Rattle.text_forms.specs.declared.Form.the-variants.{Unknown}
 use Rattle.text_forms.specs.Paper.Forms.{Shape, shapes, firstOf, formOf}
 use Rattle.text_forms.specs.Paper.Lines.{Line, ended}
@@ -55,7 +55,7 @@ first-made (s ∷ ss) h line =
         let held = held-placed places zs (r .short) (omega (arith, r .each)) in
         rw (e, made-by, firstIn, firstOf) (ap (s .form) λ i k. held k i)
 
-pub form-read : (line : List ℕ) (r : Found) → r ≡ firstIn (tableOf shapes) line → madeAt (r .index) (r .numbers) ≡ formOf line
+pub form-read : (line : List ℕ) (r : Match) → r ≡ firstIn (tableOf shapes) line → madeAt (r .index) (r .numbers) ≡ formOf line
 unfolding made-by
 form-read line r is = rw is (first-made shapes refl line)
 

@@ -11,7 +11,7 @@ use Rattle.text_formats.specs.Format.{numberMark, scan, marks}
 use Rattle.text_formats.specs.Scan.{places, placed}
 use Rattle.text_forms.specs.declared.Form.{Form}
 use Rattle.text_forms.specs.declared.Form.the-variants.{Unknown}
-use Rattle.text_forms.specs.declared.table.Found.{Found}
+use Rattle.text_forms.specs.declared.table.Match.{Match}
 use Rattle.text_forms.specs.Paper.Forms.{Shape, written, shapes}
 use Rattle.text_forms.specs.Paper.Lines.{Line, ended, unended}
 
@@ -22,10 +22,10 @@ scans (ended f ∷ ls) = leb (marks numberMark f) places && scans ls
 scans (unended f ∷ ls) = false
 
 -- what is found from the second line on
-abbrev pub later : Found → Found
+abbrev pub later : Match → Match
 later r = record { index = suc (r .index); numbers = r .numbers }
 
-unfoldable pub firstIn : List Line → List ℕ → Found
+unfoldable pub firstIn : List Line → List ℕ → Match
 firstIn [] t = record { index = 0; numbers = placed places [] }
 firstIn (ended f ∷ ls) t = elim (scan f t) [ none ↦ later (firstIn ls t) | some zs ↦ record { index = 0; numbers = placed places zs } ]
 firstIn (unended f ∷ ls) t = later (firstIn ls t)

@@ -17,13 +17,13 @@ use Rattle.text_numerals.specs.Rest.{rest, rest-drop}
 use Rattle.text_formats.specs.declared.scan.Scanned.{Scanned}
 use Rattle.text_formats.specs.Format.{numberMark, scan, marks}
 use Rattle.text_formats.specs.Scan.{places, placed, scanned}
-use Rattle.text_forms.specs.declared.table.Found.{Found}
+use Rattle.text_forms.specs.declared.table.Match.{Match}
 use Rattle.text_forms.specs.LineLaws.{inLine, lineLength, no-lines, lines-ended, lines-unended}
 use Rattle.text_forms.specs.Paper.Lines.{ended, linesOf}
 use Rattle.text_forms.specs.Table.{scans, firstIn}
 
 -- what is found k lines further down
-abbrev past : ℕ → Found → Found
+abbrev past : ℕ → Match → Match
 past k r = record { index = k + r .index; numbers = r .numbers }
 
 pub record Scanning (table text left : List ℕ) (index : ℕ) : Type 0 where

@@ -8,12 +8,12 @@ ghost use Rattle.text_forms.specs.Paper.Lines.{linesOf};
 ghost use Rattle.text_forms.specs.Table.{scans, firstIn};
 
 // Which format of the table, counted from 0, and the numbers in the text; past the last where the text is written by none.
-pub struct Found {
+pub struct Match {
     pub index: usize,
     pub numbers: [i32; PLACES],
 }
 
-pub fn first(table: &[u8], text: &[u8]) -> Found
+pub fn first(table: &[u8], text: &[u8]) -> Match
     requires { ⌜ scans (linesOf (now table)) ≡ true ⌝ }
     ensures { λ r. ⌜ r ≡ firstIn (linesOf (now (table .entry))) (now (text .entry)) ⌝ }
 {
@@ -24,13 +24,13 @@ pub fn first(table: &[u8], text: &[u8]) -> Found
         let scanned = scan(&rest[0..n], text);
         if scanned.matched {
             let numbers = scanned.numbers;
-            return Found { index, numbers };
+            return Match { index, numbers };
         }
         let after = n + 1;
         rest = &rest[after..];
         index += 1;
     }
-    Found {
+    Match {
         index,
         numbers: [0; PLACES],
     }
