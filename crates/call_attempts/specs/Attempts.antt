@@ -7,10 +7,10 @@ use Prim.Native.Nat.{ℕ}
 use lib.IntN.{ℤ}
 use Rattle.paper_board.specs.declared.Board.{Board}
 use Rattle.paper_board.specs.Paper.Limits.{Within}
-use Rattle.paper_board.specs.Update.Filled.{filled, possibly, ArraysWithin, Alters}
-use Rattle.paper_board.specs.Update.Updates.{_andThen_}
+use Rattle.paper_rules.specs.Update.Filled.{filled, possibly, ArraysWithin, Alters}
+use Rattle.paper_rules.specs.Update.Updates.{_andThen_}
 use Rattle.paper_closure.specs.Closing.{closure}
-use Rattle.call_statements.specs.declared.stated.Stated.{Stated}
+use Rattle.call_statements.specs.declared.Stated.{Stated}
 use Rattle.call_statements.specs.Stated.{rawOf, jobsWith, grown, Admissible, States, stated-within}
 
 -- on any board of n jobs within its limits the arrays are altered to those of the closed board, or there is none

@@ -1,12 +1,12 @@
 // The attempt of an entry: what it states is put on a board's arrays, and the board that shows it is closed, all in place.
-use call_statements::stated::Stated;
-use call_statements::stated::due_to;
-use call_statements::stated::jobs_with;
-use call_statements::stated::state;
-use engine_closure::close::closure;
-use engine_propagation::agenda::Agenda;
+use call_raw_entries::due_to;
+use call_raw_entries::jobs_with;
+use call_raw_entries::state;
+use call_statements::Stated;
+use engine_agenda::Agenda;
+use engine_closure::closure;
 use paper_board::Board;
-ghost use Rattle.paper_board.specs.Update.Filled.{ArraysWithin};
+ghost use Rattle.paper_rules.specs.Update.Filled.{ArraysWithin};
 ghost use Rattle.call_statements.specs.Stated.{Admissible};
 ghost use Rattle.call_attempts.specs.Attempts.{Attempts};
 

@@ -73,7 +73,7 @@ impl Dock {
         ensures { λ r. ⌜ r ≡ looking.row (self .board) job ⌝ }
     {
         if self.passes() {
-            call_views::row(self.board, job)
+            call_rows::row(self.board, job)
         } else {
             RowAnswer::Refused(Refusal::Board)
         }
@@ -84,7 +84,7 @@ impl Dock {
         ensures { λ r. ⌜ r ≡ looking.pair (self .board) a b ⌝ }
     {
         if self.passes() {
-            call_views::pair(self.board, a, b)
+            call_pairs::pair(self.board, a, b)
         } else {
             PairAnswer::Refused(Refusal::Board)
         }
@@ -97,7 +97,7 @@ impl Dock {
         if self.passes() {
             call_planner::plan(self.board, budget)
         } else {
-            call_planner::unplanned(PlanAnswer::Refused(Refusal::Board))
+            call_placements::unplanned(PlanAnswer::Refused(Refusal::Board))
         }
     }
 }

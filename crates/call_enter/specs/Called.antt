@@ -4,7 +4,7 @@ use mathlib.Core.Bool.{true}
 use mathlib.Core.Option.{Option, none, some}
 use Rattle.paper_board.specs.declared.Board.{Board}
 use Rattle.paper_board.specs.declared.Refusal.{Refusal}
-use Rattle.paper_board.specs.Update.Updates.{_andThen_}
+use Rattle.paper_rules.specs.Update.Updates.{_andThen_}
 use Rattle.paper_closure.specs.Check.{passes}
 use Rattle.paper_closure.specs.Closing.{closure}
 use Rattle.paper_entries.specs.Paper.Entry.{Entry}

@@ -1,5 +1,5 @@
 -- What the proofs of the exported calls share.
+pub mod Entering
 pub mod Passing
-pub mod Relayed
 pub mod Replied
 pub mod Stored

@@ -5,7 +5,7 @@ use mathlib.Core.Bool.{true}
 use Rattle.paper_board.specs.declared.Board.{Board}
 use Rattle.paper_board.specs.Paper.Limits.{emptyBoard}
 use Rattle.paper_board.specs.Paper.Parts.{emptyBooks}
-use Rattle.paper_board.specs.Tests.Empty.{within-emptyBooks}
+use Rattle.paper_rules.specs.Order.Empty.{within-emptyBooks}
 use Rattle.paper_closure.specs.Check.{passes}
 use Rattle.paper_closure.specs.Checked as checked
 use Rattle.paper_entries.specs.Paper.Entry.{Entry}

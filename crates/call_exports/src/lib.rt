@@ -7,17 +7,19 @@ use call_reply_numbers::Reply;
 use call_reply_numbers::RowReply;
 use call_reply_numbers::entry_reply;
 use paper_board::Board;
+use paper_entries::Entry;
 ghost use mathlib.Core.Path.{_≡_};
+ghost use mathlib.Core.Bool.{true};
 ghost use Rattle.paper_board.specs.Paper.Limits.{emptyBoard};
 ghost use Rattle.paper_board.specs.Paper.Parts.{emptyBooks};
 ghost use Rattle.paper_closure.specs.Check as check;
 ghost use Rattle.paper_entries.specs.Paper.Entry as entry;
 ghost use Rattle.paper_entries.specs.Paper.Enter as paper;
 ghost use Rattle.paper_entries.specs.Paper.Looking as looking;
+ghost use Rattle.paper_entries.specs.Paper.Values.{entryOf};
 ghost use Rattle.paper_plans.specs.Paper.Planner as planning;
 ghost use Rattle.call_reply_numbers.specs.Replies.{replied, rowReply, pairReply, planReply};
 
-mod by_value;
 pub mod unchecked;
 
 // A board without jobs whose tally starts at 0.
@@ -34,7 +36,18 @@ pub extern "C" fn bayboard_passes(board: &Board) -> bool
     ensures { λ r. ⌜ r ≡ check.passes (now (board .entry)) ⌝ }
 {
     let dock = Dock { board: *board };
-    by_value::passes(dock)
+    call_exports_by_value::passes(dock)
+}
+
+// An entry of any sort, with check 0 unless the board is known to pass it. One function for the calls with the check and those
+// without: `call_enter::enter`, called at one place, is compiled as a part of it, and no board is copied in between.
+fn enter(board: &mut Board, entry: Entry, passing: bool) -> Reply
+    requires { ⌜ (passing ≡ true → check.passes (now board) ≡ true) ⌝ }
+    ensures { λ r. ⌜ record { reply = r; board = now (board .exit) } ≡ replied (paper.enter (now (board .entry)) (entryOf entry)) ⌝ }
+{
+    let entered = call_exports_by_value::enter(*board, entry, passing);
+    *board = entered.board;
+    entry_reply(entered.answer)
 }
 
 // "Addition: length, E, D, mark 0 or 1; gives the job's number."
@@ -48,7 +61,11 @@ pub extern "C" fn bayboard_addition(
 ) -> Reply
     ensures { λ r. ⌜ record { reply = r; board = now (board .exit) } ≡ replied (paper.enter (now (board .entry)) (entry.addition length earliest latest mark)) ⌝ }
 {
-    entry_reply(call_in_place::addition(board, length, earliest, latest, mark))
+    enter(
+        board,
+        Entry::addition(length, earliest, latest, mark),
+        false,
+    )
 }
 
 // "Arc A to B: if both take place, A ends no later than B starts."
@@ -56,7 +73,7 @@ pub extern "C" fn bayboard_addition(
 pub extern "C" fn bayboard_arc(board: &mut Board, from: i32, to: i32) -> Reply
     ensures { λ r. ⌜ record { reply = r; board = now (board .exit) } ≡ replied (paper.enter (now (board .entry)) (entry.other (entry.arc from to))) ⌝ }
 {
-    entry_reply(call_in_place::arc(board, from, to))
+    enter(board, Entry::arc(from, to), false)
 }
 
 // "Mark a job 1 or 2."
@@ -64,7 +81,7 @@ pub extern "C" fn bayboard_arc(board: &mut Board, from: i32, to: i32) -> Reply
 pub extern "C" fn bayboard_mark(board: &mut Board, job: i32, mark: i32) -> Reply
     ensures { λ r. ⌜ record { reply = r; board = now (board .exit) } ≡ replied (paper.enter (now (board .entry)) (entry.other (entry.mark job mark))) ⌝ }
 {
-    entry_reply(call_in_place::mark(board, job, mark))
+    enter(board, Entry::mark(job, mark), false)
 }
 
 // "Cut a job with a window E, D: the later E and the earlier D hold."
@@ -72,7 +89,7 @@ pub extern "C" fn bayboard_mark(board: &mut Board, job: i32, mark: i32) -> Reply
 pub extern "C" fn bayboard_cut(board: &mut Board, job: i32, earliest: i32, latest: i32) -> Reply
     ensures { λ r. ⌜ record { reply = r; board = now (board .exit) } ≡ replied (paper.enter (now (board .entry)) (entry.other (entry.cut job earliest latest))) ⌝ }
 {
-    entry_reply(call_in_place::cut(board, job, earliest, latest))
+    enter(board, Entry::cut(job, earliest, latest), false)
 }
 
 // "Row of a job: mark, E, D, the set before it and the set after it."
@@ -81,7 +98,7 @@ pub extern "C" fn bayboard_row(board: &Board, job: i32) -> RowReply
     ensures { λ r. ⌜ r ≡ rowReply (looking.row (now (board .entry)) job) ⌝ }
 {
     let dock = Dock { board: *board };
-    by_value::row(dock, job)
+    call_exports_by_value::row(dock, job)
 }
 
 // "Pair of A, B: 0 no arc, 1 A to B, 2 B to A, 3 both; and the gap"
@@ -90,7 +107,7 @@ pub extern "C" fn bayboard_pair(board: &Board, a: i32, b: i32) -> PairReply
     ensures { λ r. ⌜ r ≡ pairReply (looking.pair (now (board .entry)) a b) ⌝ }
 {
     let dock = Dock { board: *board };
-    by_value::pair(dock, a, b)
+    call_exports_by_value::pair(dock, a, b)
 }
 
 // "It takes the board and a budget, 0 to 1000000." and "alters nothing".
@@ -99,5 +116,5 @@ pub extern "C" fn bayboard_plan(board: &Board, budget: i32) -> PlanReply
     ensures { λ r. ⌜ r ≡ planReply (planning.plan (now (board .entry)) budget) ⌝ }
 {
     let dock = Dock { board: *board };
-    by_value::plan(dock, budget)
+    call_exports_by_value::plan(dock, budget)
 }

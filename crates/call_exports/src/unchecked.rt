@@ -1,11 +1,11 @@
 // The same calls without check 0: they require a board that passes it and don't test it, so that a host in C has to see to that.
 // The empty board passes, and what a call leaves of a board that passes: `empty-passes` and `left-passes` in specs/Passing.antt.
+use crate::enter;
 use call_dock::Dock;
 use call_reply_numbers::PairReply;
 use call_reply_numbers::PlanReply;
 use call_reply_numbers::Reply;
 use call_reply_numbers::RowReply;
-use call_reply_numbers::entry_reply;
 use paper_board::Board;
 use paper_entries::Entry;
 ghost use mathlib.Core.Path.{_≡_};
@@ -14,21 +14,8 @@ ghost use Rattle.paper_closure.specs.Check.{passes};
 ghost use Rattle.paper_entries.specs.Paper.Entry as entry;
 ghost use Rattle.paper_entries.specs.Paper.Enter as paper;
 ghost use Rattle.paper_entries.specs.Paper.Looking as looking;
-ghost use Rattle.paper_entries.specs.Paper.Values.{entryOf};
 ghost use Rattle.paper_plans.specs.Paper.Planner as planning;
 ghost use Rattle.call_reply_numbers.specs.Replies.{replied, rowReply, pairReply, planReply};
-
-mod by_value;
-
-// An entry of any sort.
-fn enter(board: &mut Board, entry: Entry) -> Reply
-    requires { ⌜ passes (now board) ≡ true ⌝ }
-    ensures { λ r. ⌜ record { reply = r; board = now (board .exit) } ≡ replied (paper.enter (now (board .entry)) (entryOf entry)) ⌝ }
-{
-    let entered = call_enter::enter(*board, entry);
-    *board = entered.board;
-    entry_reply(entered.answer)
-}
 
 // "Addition: length, E, D, mark 0 or 1; gives the job's number."
 #[no_mangle]
@@ -42,7 +29,7 @@ pub extern "C" fn bayboard_unchecked_addition(
     requires { ⌜ passes (now board) ≡ true ⌝ }
     ensures { λ r. ⌜ record { reply = r; board = now (board .exit) } ≡ replied (paper.enter (now (board .entry)) (entry.addition length earliest latest mark)) ⌝ }
 {
-    enter(board, Entry::addition(length, earliest, latest, mark))
+    enter(board, Entry::addition(length, earliest, latest, mark), true)
 }
 
 // "Arc A to B: if both take place, A ends no later than B starts."
@@ -51,7 +38,7 @@ pub extern "C" fn bayboard_unchecked_arc(board: &mut Board, from: i32, to: i32) 
     requires { ⌜ passes (now board) ≡ true ⌝ }
     ensures { λ r. ⌜ record { reply = r; board = now (board .exit) } ≡ replied (paper.enter (now (board .entry)) (entry.other (entry.arc from to))) ⌝ }
 {
-    enter(board, Entry::arc(from, to))
+    enter(board, Entry::arc(from, to), true)
 }
 
 // "Mark a job 1 or 2."
@@ -60,7 +47,7 @@ pub extern "C" fn bayboard_unchecked_mark(board: &mut Board, job: i32, mark: i32
     requires { ⌜ passes (now board) ≡ true ⌝ }
     ensures { λ r. ⌜ record { reply = r; board = now (board .exit) } ≡ replied (paper.enter (now (board .entry)) (entry.other (entry.mark job mark))) ⌝ }
 {
-    enter(board, Entry::mark(job, mark))
+    enter(board, Entry::mark(job, mark), true)
 }
 
 // "Cut a job with a window E, D: the later E and the earlier D hold."
@@ -74,7 +61,7 @@ pub extern "C" fn bayboard_unchecked_cut(
     requires { ⌜ passes (now board) ≡ true ⌝ }
     ensures { λ r. ⌜ record { reply = r; board = now (board .exit) } ≡ replied (paper.enter (now (board .entry)) (entry.other (entry.cut job earliest latest))) ⌝ }
 {
-    enter(board, Entry::cut(job, earliest, latest))
+    enter(board, Entry::cut(job, earliest, latest), true)
 }
 
 // "Row of a job: mark, E, D, the set before it and the set after it."
@@ -84,7 +71,7 @@ pub extern "C" fn bayboard_unchecked_row(board: &Board, job: i32) -> RowReply
     ensures { λ r. ⌜ r ≡ rowReply (looking.row (now (board .entry)) job) ⌝ }
 {
     let dock = Dock { board: *board };
-    by_value::row(dock, job)
+    call_exports_by_value::unchecked::row(dock, job)
 }
 
 // "Pair of A, B: 0 no arc, 1 A to B, 2 B to A, 3 both; and the gap"
@@ -94,7 +81,7 @@ pub extern "C" fn bayboard_unchecked_pair(board: &Board, a: i32, b: i32) -> Pair
     ensures { λ r. ⌜ r ≡ pairReply (looking.pair (now (board .entry)) a b) ⌝ }
 {
     let dock = Dock { board: *board };
-    by_value::pair(dock, a, b)
+    call_exports_by_value::unchecked::pair(dock, a, b)
 }
 
 // "It takes the board and a budget, 0 to 1000000." and "alters nothing".
@@ -104,5 +91,5 @@ pub extern "C" fn bayboard_unchecked_plan(board: &Board, budget: i32) -> PlanRep
     ensures { λ r. ⌜ r ≡ planReply (planning.plan (now (board .entry)) budget) ⌝ }
 {
     let dock = Dock { board: *board };
-    by_value::plan(dock, budget)
+    call_exports_by_value::unchecked::plan(dock, budget)
 }

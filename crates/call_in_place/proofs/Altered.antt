@@ -1,7 +1,7 @@
 -- "The host's own board is altered where it is kept": one law for every entry's call by mutable reference, whatever it takes
 -- after the board. The function calls by value with a copy of the board, stores the board handed back and returns the answer.
 -- Where the call by value ensures Q of the board, the arguments and what it hands back, the function ensures what follows from
--- Q of its answer and the board that it leaves; what the call asks of the board, the function asks.
+-- Q of its answer and the board that it leaves; what the call asks, the function asks.
 -- Assumes nothing.
 use mathlib.Core.Path.{_≡_, refl, ap}
 use mathlib.Core.List.{List, [], _∷_}
@@ -63,7 +63,7 @@ module _ {m : ℕ} (cs : List (Carried m)) (G : Handed) where
   }
 
   -- what follows from Q of the answer and the board given
-  module _ (asks : Asks) (Q : Board → Values cs → G .Both .Denot → Type 0) {M : Type 1} (𝓤 : URA M) (S : Says cs (G .Reply .Row) 𝓤) where
+  module _ (asks : Asks cs) (Q : Board → Values cs → G .Both .Denot → Type 0) {M : Type 1} (𝓤 : URA M) (S : Says cs (G .Reply .Row) 𝓤) where
     abbrev pub Follows : Type 1
     Follows =
         (κs : Lfts (suc m)) (a : Args (altering cs (G .Reply .Row) .signature) κs) (r : G .Both .Denot)
@@ -73,7 +73,7 @@ module _ {m : ℕ} (cs : List (Carried m)) (G : Handed) where
     module _ (H : Heap 𝓤) (A : Atoms 𝓤) (W : Given 𝓤 H A) (follows : Follows) (C : Calls 𝓤 H) (Λ : Loops 𝓤 H)
         (fm : FmC 𝓤 H (W .laws) C) (callee : Name) (known : Triple 𝓤 (C callee) (OfDock cs (G .Both) asks Q 𝓤 H A)) where
       walk : Walk cs (G .Reply .Row) asks 𝓤 S H A W C Λ (function callee)
-      walk κ κs q qs b o γ h holds a fits =
+      walk κ κs q qs b o γ h a holds fits =
           let zs : Values cs = values by-reference (κ, κs) cs a in
           fsplit3 ! $ drop ! $
           -- [obs; the borrow; the token; what the arguments own; their tokens]
@@ -114,7 +114,7 @@ module _ {m : ℕ} (cs : List (Carried m)) (G : Handed) where
           (follows (κ, κs) (pointer b o γ h, a) r e) _ (G .is-reply r _ made)))))))))))
 
   -- the law, as a function's proof cites it
-  module _ (asks : Asks) (Q : Board → Values cs → G .Both .Denot → Type 0) {M : Type 1} (𝓤 : URA M) (H : Heap 𝓤) (𝓜 : Model 𝓤 H)
+  module _ (asks : Asks cs) (Q : Board → Values cs → G .Both .Denot → Type 0) {M : Type 1} (𝓤 : URA M) (H : Heap 𝓤) (𝓜 : Model 𝓤 H)
       (𝓖 : GhostRules 𝓤 H) (𝓡 : Running 𝓤 H 𝓜) where
     pub law : (S : Says cs (G .Reply .Row) 𝓤) → Follows asks Q 𝓤 S → (env : Env) (name callee : Name) (routine : Routine)
         → Closed 𝓤 H (tables 𝓤 H 𝓜 𝓡 env .C) (tables 𝓤 H 𝓜 𝓡 env .Λ) name (function callee) → env callee ≡ routine

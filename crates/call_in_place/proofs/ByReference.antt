@@ -71,9 +71,13 @@ module _ {m : ℕ} (cs : List (Carried m)) (R : RattleType) where
   abbrev pub Said : {M : Type 1} (𝓤 : URA M) → Says 𝓤 → (κs : Lfts (suc m)) → Args (altering .signature) κs → R .Denot → Board → SProp 𝓤
   Said 𝓤 S κs a r d = S κs a tt r (atExit altering κs a (d, unsaid by-reference κs cs (a .1)))
 
-  module _ (asks : Asks) {M : Type 1} (𝓤 : URA M) (S : Says 𝓤) where
+  module _ (asks : Asks cs) {M : Type 1} (𝓤 : URA M) (S : Says 𝓤) where
     abbrev altered : Clauses 𝓤 altering
-    altered κs a = record { ghost = Unit {0}; requires = λ g. clause 𝓤 asks (now (a .0)); ensures = S κs a }
+    altered κs a = record {
+      ghost = Unit {0};
+      requires = λ g. clause cs 𝓤 asks (now (a .0)) (values by-reference κs cs (a .1));
+      ensures = S κs a;
+    }
 
     module _ (H : Heap 𝓤) (A : Atoms 𝓤) where
       abbrev pub Alters : Fun 𝓤 → Type 1
@@ -123,11 +127,12 @@ module _ {m : ℕ} (cs : List (Carried m)) (R : RattleType) where
             use0 W (‵ (Had by-reference (κ, κs) cs a)) (had by-reference (κ, κs) 𝓤 H A cs a) $ move ! (1 ∷ 0 ∷ []) $ fjoin ! $ frame ! $
             owned ! R (Is R) makes r (v ∷ []) is $ done !
 
-      -- a walk for any board of which holds what is asked
+      -- a walk for any board and arguments of which holds what is asked
       abbrev pub Walk : Given 𝓤 H A → Calls 𝓤 H → Loops 𝓤 H → Fn → Type 1
       Walk W C Λ f =
-          (κ : Lft) (κs : Lfts m) (q : Share) (qs : Shares m) (b o : ℕ) (γ : GName) (h : Board) → Holds asks h
-          → (a : Denots (rows by-reference (κ, κs) cs)) → Fit by-reference (κ, κs) cs a → Ends κ κs q qs b o γ h a W C Λ f
+          (κ : Lft) (κs : Lfts m) (q : Share) (qs : Shares m) (b o : ℕ) (γ : GName) (h : Board)
+          (a : Denots (rows by-reference (κ, κs) cs)) → Holds cs asks h (values by-reference (κ, κs) cs a)
+          → Fit by-reference (κ, κs) cs a → Ends κ κs q qs b o γ h a W C Λ f
 
       meets : (W : Given 𝓤 H A) (𝓣 : Tables 𝓤 H) (f : Fn) → Walk W (𝓣 .C) (𝓣 .Λ) f → Alters (WpFn 𝓤 H (𝓣 .C) (𝓣 .Λ) f)
       meets W 𝓣 f walk =
@@ -137,12 +142,12 @@ module _ {m : ℕ} (cs : List (Carried m)) (R : RattleType) where
           altered run (WpFn-mono 𝓤 H (W .laws) 𝓣 f)
           (walked 𝓤 H A altering stayed altered run (λ κs. (ptr-vals, spells by-reference κs cs))
           (λ κs. (mut-tells (named 0) (κs .0) B.the-row, told by-reference κs cs))
-          (λ κs qs bounds a g are. learned 𝓤 asks (now (a .0)) (λ holds.
+          (λ κs qs bounds a g are. learned cs 𝓤 asks (now (a .0)) (values by-reference κs cs (a .1)) (λ holds.
           starts (κs .0) (κs .1) (qs .0) (qs .1) (a .0 .ptr .0) (a .0 .ptr .1) (a .0 .name) (a .0 .now) (a .1) W (𝓣 .C) (𝓣 .Λ) f
-          (walk (κs .0) (κs .1) (qs .0) (qs .1) (a .0 .ptr .0) (a .0 .ptr .1) (a .0 .name) (a .0 .now) holds (a .1) (are .1)))))
+          (walk (κs .0) (κs .1) (qs .0) (qs .1) (a .0 .ptr .0) (a .0 .ptr .1) (a .0 .name) (a .0 .now) (a .1) holds (are .1)))))
 
   -- the theorem, as a law of one kind of code cites it
-  module _ (asks : Asks) {M : Type 1} (𝓤 : URA M) (S : Says 𝓤) (H : Heap 𝓤) (𝓜 : Model 𝓤 H) (𝓖 : GhostRules 𝓤 H)
+  module _ (asks : Asks cs) {M : Type 1} (𝓤 : URA M) (S : Says 𝓤) (H : Heap 𝓤) (𝓜 : Model 𝓤 H) (𝓖 : GhostRules 𝓤 H)
       (𝓡 : Running 𝓤 H 𝓜) (env : Env) (name : Name) (f : Fn) where
     pub by-walk : Closed 𝓤 H (tables 𝓤 H 𝓜 𝓡 env .C) (tables 𝓤 H 𝓜 𝓡 env .Λ) name f
         → (FmC 𝓤 H (givenOf 𝓤 H 𝓜 𝓖 .laws) (tables 𝓤 H 𝓜 𝓡 env .C)

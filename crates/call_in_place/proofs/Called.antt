@@ -20,7 +20,7 @@ use sound.WpLaws.{FmC}
 use denote.RattleType.{RattleType, flat, owns}
 use denote.Laws.{Is, shows}
 use denote.Signature.{plain}
-use denote.Steps.{owned, peeks, heard, nothing}
+use denote.Steps.{owned, peeks, heard}
 use denote.Triple.Call.{calls-at}
 use denote.Triple.Clauses.{Ended, Clauses, closing, ensured, lasts}
 use denote.Triple.Spec.{tripleOf}
@@ -109,19 +109,20 @@ module _ {m : ℕ} (cs : List (Carried m)) (R : RattleType) where
             heard t (Ensured r) (λ e. split t $ move t (1 ∷ 0 ∷ []) $ peeks t R (Is R) (shows 𝓤 H A R) r (v ∷ []) (λ made.
             k r v (subst (λ (ys : Values cs). Q ys r) same e) made))))
 
--- a plain value is an argument that is had for nothing
-pub alone : {M : Type 1} {𝓤 : URA M} {H : Heap 𝓤} {A : Atoms 𝓤} {K : Type 0} {W : Given 𝓤 H A} {Γ : List (Item 𝓤)} {G : Goal 𝓤 H}
+-- a plain value is an argument that is had for nothing, before others that are
+pub freely : {M : Type 1} {𝓤 : URA M} {H : Heap 𝓤} {A : Atoms 𝓤} {K : Type 0} {W : Given 𝓤 H A} {Γ : List (Item 𝓤)} {G : Goal 𝓤 H}
     → K → (X : Plain) (x : X .Row .Denot) → Is (X .Row) x (X .val x ∷ [])
-    → Step K W (‵ (owned-by {m = 0} tt (value X ∷ []) (x, tt)) ∷ raw (toks 𝓤 A 0 tt tt) ∷ Γ) G Γ G
-alone {𝓤 = 𝓤} {H = H} {A = A} {W = W} t X x is =
-    step (λ s. use0 W (raw (toks 𝓤 A 0 tt tt)) (id⊢ 𝓤 (emp 𝓤)) $ nothing t $
+    → (cs : List (Carried 0)) (zs : Values cs) → ent 𝓤 (emp 𝓤) (sem 𝓤 H A (owned-by tt cs zs))
+    → Step K W (‵ (owned-by tt (value X ∷ cs) (x, zs)) ∷ raw (toks 𝓤 A 0 tt tt) ∷ Γ) G Γ G
+freely {𝓤 = 𝓤} {H = H} {A = A} {W = W} t X x is cs zs free =
+    step (λ s. use0 W (raw (toks 𝓤 A 0 tt tt)) (id⊢ 𝓤 (emp 𝓤)) $ use0 W (‵ (owned-by tt cs zs)) free $
     owned t (X .Row) (Is (X .Row)) (X .makes 𝓤 H A W) x (X .val x ∷ []) is $ fjoin t $ s)
 
--- a call of a dock, which may ask a fact of its board
-module _ {m : ℕ} (cs : List (Carried m)) (R : RattleType) (asks : Asks) (Q : Board → Values cs → R .Denot → Type 0) {M : Type 1}
+-- a call of a dock, which may ask a fact of its board and of the arguments after it
+module _ {m : ℕ} (cs : List (Carried m)) (R : RattleType) (asks : Asks cs) (Q : Board → Values cs → R .Denot → Type 0) {M : Type 1}
     (𝓤 : URA M) where
   abbrev Asked : Values (value dock ∷ cs) → SProp 𝓤
-  Asked zs = asked.clause 𝓤 asks (zs .0 .board)
+  Asked zs = asked.clause cs 𝓤 asks (zs .0 .board) (zs .1)
 
   abbrev OfBoard : Values (value dock ∷ cs) → R .Denot → Type 0
   OfBoard zs = Q (zs .0 .board) (zs .1)
@@ -136,11 +137,11 @@ module _ {m : ℕ} (cs : List (Carried m)) (R : RattleType) (asks : Asks) (Q : B
 
       pub dock-calls : {K : Type 0} {W : Given 𝓤 H A} {Γ : List (Item 𝓤)} {C : Calls 𝓤 H} {Λ : Loops 𝓤 H} {E : Env 𝓤 H}
           {q : Post 𝓤 H} {callee : Name} {xs : List Operand} {d : Place} {rest : Body}
-          → K → FmC 𝓤 H (W .laws) C → Triple 𝓤 (C callee) OfDock → Holds asks h → IsBoard h
+          → K → FmC 𝓤 H (W .laws) C → Triple 𝓤 (C callee) OfDock → Holds cs asks h zs → IsBoard h
           → Opds K W (raw (OfDock .pre to-dock) ∷ Γ) E xs (dock-val h ∷ flat (rows by-value κs cs) (passed by-value κs cs zs))
           → ((r : R .Denot) (v : Val) → Q h zs r → Is R r (v ∷ [])
           → Seq K W (‵ (R .own r (v ∷ [])) ∷ raw (toks 𝓤 A m κs qs) ∷ Γ) (lands C Λ E d v rest q))
           → Seq K W (‵ (owned-by κs cs zs) ∷ raw (toks 𝓤 A m κs qs) ∷ Γ) (runs C Λ E (seq (call callee xs d) rest) q)
       dock-calls {W = W} t fm known holds is os k =
           owned t (dock .Row) (Is (dock .Row)) (dock .makes 𝓤 H A W) (holding h) (dock-val h ∷ []) (is-dock h is) $ fjoin t $
-          calls (value dock ∷ cs) R 𝓤 Asked OfBoard H A κs qs (holding h, zs) t fm known (asked.said 𝓤 asks h holds) os k
+          calls (value dock ∷ cs) R 𝓤 Asked OfBoard H A κs qs (holding h, zs) t fm known (asked.said cs 𝓤 asks h zs holds) os k

@@ -8,6 +8,7 @@ pub mod ByReference
 pub mod Called
 pub mod Carried
 pub mod Cells
+pub mod Flags
 pub mod Handed
 pub mod InPlace
 pub mod Looked

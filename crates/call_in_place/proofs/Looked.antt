@@ -1,7 +1,6 @@
 -- "The host's own board" is looked at where it is kept: one law for every reading call by shared reference, whatever it takes
 -- after the board. The function calls by value with a copy of the board and returns the answer. Where the call by value ensures
--- Q of the board, the arguments and the answer, the function ensures what follows from Q; what the call asks of the board, the
--- function asks.
+-- Q of the board, the arguments and the answer, the function ensures what follows from Q; what the call asks, the function asks.
 -- Assumes nothing.
 use mathlib.Core.Path.{_≡_, refl}
 use mathlib.Core.List.{List, [], _∷_}
@@ -89,9 +88,13 @@ module _ {m : ℕ} (cs : List (Carried m)) (R : Plain) where
   abbrev Says : {M : Type 1} → URA M → Type 2
   Says 𝓤 = (κs : Lfts (suc m)) (a : Args (looking .signature) κs) → Unit {0} → R .Row .Denot → AtExit looking κs → SProp 𝓤
 
-  module _ (asks : Asks) (Q : Board → Values cs → R .Row .Denot → Type 0) {M : Type 1} (𝓤 : URA M) (S : Says 𝓤) where
+  module _ (asks : Asks cs) (Q : Board → Values cs → R .Row .Denot → Type 0) {M : Type 1} (𝓤 : URA M) (S : Says 𝓤) where
     abbrev looked : Clauses 𝓤 looking
-    looked κs a = record { ghost = Unit {0}; requires = λ g. clause 𝓤 asks (now (a .0)); ensures = S κs a }
+    looked κs a = record {
+      ghost = Unit {0};
+      requires = λ g. clause cs 𝓤 asks (now (a .0)) (values by-reference κs cs (a .1));
+      ensures = S κs a;
+    }
 
     -- it follows from Q of the answer
     abbrev pub Follows : Type 1
@@ -105,7 +108,7 @@ module _ {m : ℕ} (cs : List (Carried m)) (R : Plain) where
       Looks run = Meets 𝓤 H A (looking .signature) run (closing 𝓤 H A looking looked)
 
       module _ (W : Given 𝓤 H A) (follows : Follows) (κ : Lft) (κs : Lfts m) (q : Share) (qs : Shares m) (b o : ℕ) (γ : GName)
-          (h : Board) (holds : Holds asks h) (a : Denots (rows by-reference (κ, κs) cs)) (fits : Fit by-reference (κ, κs) cs a) where
+          (h : Board) (a : Denots (rows by-reference (κ, κs) cs)) where
         abbrev zs : Values cs
         zs = values by-reference (κ, κs) cs a
 
@@ -144,8 +147,8 @@ module _ {m : ℕ} (cs : List (Carried m)) (R : Plain) where
             use0 W (‵ (Had by-reference (κ, κs) cs a)) (had by-reference (κ, κs) 𝓤 H A cs a) $
             move ! (1 ∷ 0 ∷ []) $ fjoin ! $ frame ! $ done !
 
-        module _ (C : Calls 𝓤 H) (Λ : Loops 𝓤 H) (fm : FmC 𝓤 H (W .laws) C) (callee : Name)
-            (known : Triple 𝓤 (C callee) (OfDock cs (R .Row) asks Q 𝓤 H A)) where
+        module _ (holds : Holds cs asks h zs) (fits : Fit by-reference (κ, κs) cs a) (C : Calls 𝓤 H) (Λ : Loops 𝓤 H)
+            (fm : FmC 𝓤 H (W .laws) C) (callee : Name) (known : Triple 𝓤 (C callee) (OfDock cs (R .Row) asks Q 𝓤 H A)) where
           walk : ent 𝓤 (onEntry 𝓤 H A (looking .signature) (κ, κs) (q, qs) (y .0 .3) (y .0 .4))
               (WpFn 𝓤 H C Λ (function callee) args Post)
           walk =
@@ -189,12 +192,12 @@ module _ {m : ℕ} (cs : List (Carried m)) (R : Plain) where
           looked run (WpFn-mono 𝓤 H (W .laws) 𝓣 (function callee))
           (walked 𝓤 H A looking stayed looked run (λ κs. (ptr-vals, spells by-reference κs cs))
           (λ κs. (shr-tells (named 0) (κs .0) B.the-row, told by-reference κs cs))
-          (λ κs qs bounds a g are. learned 𝓤 asks (now (a .0)) (λ holds.
-          walk W follows (κs .0) (κs .1) (qs .0) (qs .1) (a .0 .ptr .0) (a .0 .ptr .1) (a .0 .name) (a .0 .now) holds (a .1) (are .1)
+          (λ κs qs bounds a g are. learned cs 𝓤 asks (now (a .0)) (values by-reference κs cs (a .1)) (λ holds.
+          walk W follows (κs .0) (κs .1) (qs .0) (qs .1) (a .0 .ptr .0) (a .0 .ptr .1) (a .0 .name) (a .0 .now) (a .1) holds (are .1)
           (𝓣 .C) (𝓣 .Λ) (fmOf 𝓤 H (W .laws) 𝓣) callee known)))
 
   -- the law, as a function's proof cites it
-  module _ (asks : Asks) (Q : Board → Values cs → R .Row .Denot → Type 0) {M : Type 1} (𝓤 : URA M) (H : Heap 𝓤) (𝓜 : Model 𝓤 H)
+  module _ (asks : Asks cs) (Q : Board → Values cs → R .Row .Denot → Type 0) {M : Type 1} (𝓤 : URA M) (H : Heap 𝓤) (𝓜 : Model 𝓤 H)
       (𝓖 : GhostRules 𝓤 H) (𝓡 : Running 𝓤 H 𝓜) where
     pub law : (S : Says 𝓤) → Follows asks Q 𝓤 S → (env : Env) (name callee : Name) (routine : Routine)
         → Closed 𝓤 H (tables 𝓤 H 𝓜 𝓡 env .C) (tables 𝓤 H 𝓜 𝓡 env .Λ) name (function callee) → env callee ≡ routine

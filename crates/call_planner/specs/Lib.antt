@@ -1,7 +1,3 @@
--- What the proof of the planner's loop stands on: what is left to be tried, and what the loop keeps.
-pub mod Rest
-pub mod Waiting
-pub mod Loop
+-- What the proof of the planner's loop stands on: each move, and what it comes to.
 pub mod Moves
 pub mod Results
-pub mod Starts

@@ -8,9 +8,10 @@ use Prim.Native.Nat.{ℕ, zero, suc, _+_, _<_, _≤_}
 use native.Mathlib.Omega.{arith}
 use lib.IntN.{ℤ}
 use lib.ListN.{length}
-use Rattle.ground_sets.specs.Bit.{bit, Next, width}
+use Rattle.ground_sets.specs.Bit.{bit, width}
+use Rattle.ground_walks.specs.Takes.{Next}
 use Rattle.ground_sets.specs.BitLaws.{bit-zero, bit-ext}
-use Rattle.ground_sets.specs.Walk.{trailing-lowest, takes}
+use Rattle.ground_walks.specs.Walk.{trailing-lowest, takes}
 use Rattle.ground_arithmetic.specs.Bools.{is-true, refuted, same-tests}
 use Rattle.paper_board.specs.declared.Board.{Board}
 use Rattle.paper_board.specs.Paper.View.{view}
@@ -23,9 +24,9 @@ use Rattle.paper_plans.specs.Paper.Planner.{placedWord, startList, unplanned, a
 use Rattle.paper_plans.specs.ListLaws.{none-among, kept-at-most, range-length}
 use Rattle.paper_plans.specs.PlanLaws.{placed-bit, found-in-budget, none-in-budget, beyond-budget}
 use Rattle.paper_plans.specs.Reached.{last-and-before}
-use Rattle.call_planner.specs.Rest.{stack, members, back, tried-all, try-due, all-found}
-use Rattle.call_planner.specs.Waiting.{order, waiting-fits, waitingCount, waiting-members, no-members, some-waits, least-first}
-use Rattle.call_planner.specs.Loop.{at, Placements, outcome, State}
+use Rattle.call_placements.specs.Rest.{stack, members, back, tried-all, try-due, all-found}
+use Rattle.call_placements.specs.Waiting.{order, waiting-fits, waitingCount, waiting-members, no-members, some-waits, least-first}
+use Rattle.call_placements.specs.Loop.{at, Placements, outcome, State}
 
 -- the jobs of the stack are valid
 stacked : (b : Board) (jobs lefts : List ℕ) (frees : List ℤ) (depth : ℕ) → Placements b jobs lefts frees depth

@@ -22,7 +22,7 @@ use Rattle.paper_plans.specs.declared.Planned.{Planned}
 use Rattle.paper_plans.specs.Paper.Answers.{planReplyOf}
 use Rattle.paper_plans.specs.Paper.Planner as Planner
 use Rattle.paper_demands.specs.Demand1Holds.{demand1}
-use Rattle.paper_demands.specs.Paper.Requests.{entry, row, pair, plan, a-row, a-pair, a-plan, sortOf, refusalsOf, entryRefusal, rowRefusal, pairRefusal, planRefusal}
+use Rattle.paper_requests.specs.Paper.Requests.{entry, row, pair, plan, a-row, a-pair, a-plan, sortOf, refusalsOf, entryRefusal, rowRefusal, pairRefusal, planRefusal}
 use Rattle.call_reply_numbers.specs.Replies.{entryReply, rowReply, pairReply, planReply}
 
 -- a reply that isn't accepted has the number of the refusal

@@ -13,19 +13,19 @@ use Rattle.paper_board.specs.Paper.View as Rows
 use Rattle.paper_board.specs.Paper.Limits.{jobLimit, Fits, Within}
 use Rattle.paper_board.specs.Paper.Parts.{withJobs}
 use Rattle.paper_board.specs.Paper.Values.{factOf}
-use Rattle.paper_board.specs.Update.Filled.{filled, possibly, ArraysWithin, Alters}
-use Rattle.paper_board.specs.Update.Updates.{append, update, _andThen_}
-use Rattle.paper_board.specs.Update.Extension.{Extends, HasRow, Updated}
-use Rattle.paper_board.specs.Update.Appended.{appended}
-use Rattle.paper_board.specs.Update.Updated.{updated}
+use Rattle.paper_rules.specs.Update.Filled.{filled, possibly, ArraysWithin, Alters}
+use Rattle.paper_rules.specs.Update.Updates.{append, update, _andThen_}
+use Rattle.paper_rules.specs.Update.Extension.{Extends, HasRow, Updated}
+use Rattle.paper_rules.specs.Update.Appended.{appended}
+use Rattle.paper_rules.specs.Update.Updated.{updated}
 use Rattle.engine_updates.specs.Applicable.{Timely}
-use Rattle.paper_board.specs.Inference.Known.{known-more}
+use Rattle.paper_rules.specs.Inference.Known.{known-more}
 use Rattle.paper_entries.specs.Allowed.{KnownAll}
 use Rattle.paper_entries.specs.Made.{HoldAll}
 use Rattle.paper_entries.specs.Raw.{updated-all}
 use Rattle.paper_entries.specs.Paper.Enter.{updateAll}
-use Rattle.call_statements.specs.declared.stated.Stated.{Stated}
-use Rattle.call_statements.specs.declared.stated.Stated.the-variants.{Row, One, Two}
+use Rattle.call_statements.specs.declared.Stated.{Stated}
+use Rattle.call_statements.specs.declared.Stated.the-variants.{Row, One, Two}
 
 -- the row that is stated
 abbrev pub statedRow : ℤ → ℤ → ℤ → ℕ → Rows.Row

@@ -17,8 +17,8 @@ use Rattle.paper_entries.specs.Paper.Gate.{checks, gate}
 use Rattle.paper_entries.specs.Paper.Enter.{raw, updateAll}
 use Rattle.paper_entries.specs.Allowed.{gate-allows}
 use Rattle.paper_entries.specs.Numbers.{pair-numbers, mark-numbers, cut-numbers}
-use Rattle.call_statements.specs.declared.stated.Stated.{Stated}
-use Rattle.call_statements.specs.declared.stated.Stated.the-variants.{Row, One, Two}
+use Rattle.call_statements.specs.declared.Stated.{Stated}
+use Rattle.call_statements.specs.declared.Stated.the-variants.{Row, One, Two}
 use Rattle.call_statements.specs.Stated.{rawOf, Admissible}
 
 -- the entry meets no check of the table on a board of so many jobs

@@ -1,5 +1,4 @@
-// What an entry states, once its checks have let it pass, and what that does to a board's arrays before anything is inferred.
-use crate::stated::Stated;
+// What an entry states, once its checks have let it pass.
 use call_checks::index;
 use call_checks::mark_value;
 use paper_board::Board;
@@ -12,7 +11,17 @@ ghost use lib.Dec.{eqb};
 ghost use Rattle.paper_entries.specs.Paper.Values.{entryOf};
 ghost use Rattle.call_statements.specs.StatedBy.{Passed, statedBy};
 
-pub mod stated;
+// A job's row, or one fact, or two: a cut states a bound on either side.
+pub enum Stated {
+    Row {
+        length: i32,
+        earliest: i32,
+        latest: i32,
+        mark: u8,
+    },
+    One(Fact),
+    Two(Fact, Fact),
+}
 
 // "Mark a job 1 or 2."
 fn marking(job: usize, mark: u8) -> Fact

@@ -11,9 +11,9 @@ use Rattle.paper_board.specs.declared.Board.{Board}
 use Rattle.paper_board.specs.Paper.View.{Side, rowOf}
 use Rattle.paper_board.specs.Paper.Facts.{is-bound}
 use Rattle.paper_board.specs.Paper.Values.{turned}
-use Rattle.paper_board.specs.Update.Updates.{exclude, tighten, update}
-use Rattle.paper_board.specs.Update.Filled.{filled}
-use Rattle.paper_board.specs.Update.Shown.{boundShown, bound-new}
+use Rattle.paper_rules.specs.Update.Updates.{exclude, tighten, update}
+use Rattle.paper_rules.specs.Update.Filled.{filled}
+use Rattle.paper_rules.specs.Update.Shown.{boundShown, bound-new}
 use Rattle.engine_windows.specs.declared.Window.{Window}
 use Rattle.engine_windows.specs.Windows.{bounded, windowOf, moved}
 use Rattle.engine_windows.specs.WindowLaws.{moved-raised}

@@ -12,17 +12,17 @@ use Rattle.paper_board.specs.declared.facts.Fact as Facts
 use Rattle.paper_board.specs.Paper.Facts.{Fact, Holds, Known}
 use Rattle.paper_board.specs.Paper.Limits.{jobLimit, Within}
 use Rattle.paper_board.specs.Paper.Values.{factOf}
-use Rattle.paper_board.specs.Inference.Infers.{Infers, Obeys}
-use Rattle.paper_board.specs.Update.Filled.{filled, arrayed, ArraysWithin, possibly, Alters}
-use Rattle.paper_board.specs.Update.Updates.{update}
-use Rattle.paper_board.specs.Update.Reaches.{Reaches, reached-self, reaches-then, infers-known}
+use Rattle.paper_rules.specs.Inference.Infers.{Infers, Obeys}
+use Rattle.paper_rules.specs.Update.Filled.{filled, arrayed, ArraysWithin, possibly, Alters}
+use Rattle.paper_rules.specs.Update.Updates.{update}
+use Rattle.paper_rules.specs.Update.Reaches.{Reaches, reached-self, reaches-then, infers-known}
 use Rattle.engine_updates.specs.Applicable.{Timely}
 use Rattle.engine_marks.specs.Marked.{marked, unmarked}
 use Rattle.engine_findings.specs.Searched.{Searched}
 use Rattle.engine_search.specs.PairsWalk.{ReadSearched}
-use Rattle.engine_closure.specs.Advances.{Advances}
+use Rattle.engine_advance.specs.Advances.{Advances}
 use Rattle.paper_closure.specs.Closing.{closure}
-use Rattle.paper_board.specs.Inference.Known.{known-more}
+use Rattle.paper_rules.specs.Inference.Known.{known-more}
 use Rattle.paper_closure.specs.Measure.{measure, measure-mono}
 use Rattle.engine_search.specs.Reads.{board-read}
 use Rattle.engine_closure.specs.Timely.{timely}

@@ -12,10 +12,10 @@ use Rattle.paper_board.specs.declared.facts.Fact as Facts
 use Rattle.paper_board.specs.Paper.View.{Side, Live, bound, view, rowOf}
 use Rattle.paper_board.specs.Paper.Facts.{is-bound, Holds}
 use Rattle.paper_board.specs.Paper.Limits.{IsTime, Within}
-use Rattle.paper_board.specs.Paper.Rules.{energy}
+use Rattle.paper_rules.specs.Paper.Rules.{energy}
 use Rattle.paper_board.specs.Paper.Values.{sideOf, factOf}
-use Rattle.paper_board.specs.Inference.Infers.{Infers, r45}
-use Rattle.paper_board.specs.Inference.Forced.{valid-live}
+use Rattle.paper_rules.specs.Inference.Infers.{Infers, r45}
+use Rattle.paper_rules.specs.Inference.Forced.{valid-live}
 use Rattle.paper_board.specs.Tests.Ranges.{ranges}
 use Rattle.paper_board.specs.Tests.Bounds.{bound-time}
 use Rattle.engine_updates.specs.Applicable.{Timely}

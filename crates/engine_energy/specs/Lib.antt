@@ -1,7 +1,3 @@
--- The energy bound of R4 and R5: what it is, and that the code's way to it is exact.
-pub mod Energy
+-- What the proofs of the energy bound's passes stand on: the jobs passed, and those still in play.
 pub mod Members
-pub mod Laws
 pub mod Passed
-pub mod Single
-pub mod Exact

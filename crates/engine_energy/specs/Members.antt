@@ -4,7 +4,7 @@ use mathlib.Core.Bool.{true}
 use Prim.Native.Nat.{ℕ, _^_, _<_}
 use lib.IntN.{ℤ, _+ℤ_}
 use Rattle.ground_sets.specs.Bit.{bit, without}
-use Rattle.ground_sets.specs.Walk.{without-self, without-other}
+use Rattle.ground_walks.specs.Walk.{without-self, without-other}
 use Rattle.ground_arithmetic.specs.Sum.{total, total-member}
 
 pub total-without : (n w k : ℕ) → w < 2 ^ n → k < n → bit w k ≡ true → (f : ℕ → ℤ)

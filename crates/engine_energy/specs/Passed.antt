@@ -8,16 +8,17 @@ use Prim.Native.Nat.{ℕ, _^_, _<_}
 use lib.Count.{trailingZeros}
 use lib.IntN.{ℤ}
 use lib.Signed.{ltZ, _≤ℤ_}
-use Rattle.ground_sets.specs.Bit.{bit, without, Takes}
+use Rattle.ground_sets.specs.Bit.{bit, without}
+use Rattle.ground_walks.specs.Takes.{Takes}
 use Rattle.ground_sets.specs.BitLaws.{bit-zero, without-lt}
-use Rattle.ground_sets.specs.Walk.{trailing-lowest, without-self, without-other, without-inside, taken-out}
+use Rattle.ground_walks.specs.Walk.{trailing-lowest, without-self, without-other, without-inside, taken-out}
 use Rattle.ground_arithmetic.specs.Bools.{refuted, by-test}
 use Rattle.ground_arithmetic.specs.Linear.{whole}
 use Rattle.ground_arithmetic.specs.Time.{lesser, lesser-left, lesser-right}
 use Rattle.paper_board.specs.Paper.View.{Side}
 use Rattle.paper_board.specs.Paper.Limits.{jobLimit, lastMinute}
 use Rattle.paper_board.specs.Tests.Bounds.{turned-time}
-use Rattle.engine_energy.specs.Energy.{boundAt, Times, LeastBound}
+use Rattle.engine_sums.specs.Sums.{boundAt, Times, LeastBound}
 
 -- z is the bound of a job of the set w that was passed, or still the last minute
 abbrev Reached : Side → List ℤ → ℕ → ℕ → ℤ → Type 0

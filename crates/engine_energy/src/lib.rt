@@ -1,4 +1,9 @@
 // The energy bound of R4 and R5: the best sum that a set of jobs allows, without a copy of the jobs.
+use engine_sums::EnergyBound;
+use engine_sums::above;
+use engine_sums::bound;
+use engine_sums::end;
+use engine_sums::turned;
 use paper_board::Board;
 use paper_board::facts::Side;
 ghost use mathlib.Core.Path.{_≡_};
@@ -7,52 +12,7 @@ ghost use Prim.Native.Nat.{_<_};
 ghost use Rattle.ground_arithmetic.specs.Time.{Moderate};
 ghost use Rattle.paper_board.specs.Paper.Limits.{jobLimit};
 ghost use Rattle.paper_board.specs.Paper.Values as paper;
-ghost use Rattle.engine_energy.specs.Energy as energy;
-
-// The bound that some jobs leave to another, where it is above what that job has already.
-pub enum EnergyBound {
-    Unbounded,
-    At(i32),
-}
-
-// A time as a bound that closing can only raise, and back.
-fn turned(side: Side, time: i32) -> i32
-    requires { ⌜ Moderate time ⌝ }
-    ensures { λ r. ⌜ r ≡ paper.turned (paper.sideOf side) time ⌝ }
-{
-    match side {
-        Side::Early => time,
-        Side::Late => -time,
-    }
-}
-
-// The bound that stands at place k.
-fn bound(side: Side, times: &[i32; Board::JOBS], k: usize) -> i32
-    requires { ⌜ energy.Times (now times) ⌝ }
-    requires { ⌜ k < jobLimit ⌝ }
-    ensures { λ r. ⌜ r ≡ energy.boundAt (paper.sideOf side) (now (times .entry)) k ⌝ }
-{
-    turned(side, times[k])
-}
-
-// The bound that the job at place k leaves to the jobs beyond it.
-pub fn end(side: Side, times: &[i32; Board::JOBS], lengths: &[i32; Board::JOBS], k: usize) -> i32
-    requires { ⌜ energy.Times (now times) × energy.Lengths (now lengths) × (k < jobLimit) ⌝ }
-    ensures { λ r. ⌜ r ≡ energy.endAt (paper.sideOf side) (now (times .entry)) (now (lengths .entry)) k ⌝ }
-{
-    ground_arithmetic::sum(bound(side, times, k), lengths[k])
-}
-
-// A bound as a time, where it is above the floor.
-fn above(side: Side, floor: i32, best: i32) -> EnergyBound
-    requires { ⌜ Moderate best ⌝ }
-    ensures { λ r. ⌜ energy.boundOf (paper.sideOf side) r ≡ energy.over floor best ⌝ }
-{
-    if floor < best {
-        return EnergyBound::At(turned(side, best));
-    }
-    EnergyBound::Unbounded
-}
+ghost use Rattle.engine_sums.specs.Sums as sums;
 
 // The jobs still in play, the least of their bounds, and the sum of their lengths.
 struct Play {
@@ -63,16 +23,16 @@ struct Play {
 
 // All jobs of a set. Where there are none, `least` says nothing.
 fn whole(side: Side, times: &[i32; Board::JOBS], lengths: &[i32; Board::JOBS], set: u64) -> Play
-    requires { ⌜ energy.Times (now times) ⌝ }
-    requires { ⌜ energy.Lengths (now lengths) ⌝ }
+    requires { ⌜ sums.Times (now times) ⌝ }
+    requires { ⌜ sums.Lengths (now lengths) ⌝ }
     ensures { λ r. ⌜ r .set ≡ set ⌝ }
-    ensures { λ r. ⌜ energy.Comes (paper.sideOf side) (now (times .entry)) (now (lengths .entry)) set (r .least) (r .total) ⌝ }
+    ensures { λ r. ⌜ sums.Comes (paper.sideOf side) (now (times .entry)) (now (lengths .entry)) set (r .least) (r .total) ⌝ }
 {
     let mut least = Board::LAST_MINUTE;
     let mut total = 0;
     let mut left = set;
     while left != 0 {
-        let taken = ground_sets::take_lowest(left);
+        let taken = ground_walks::take_lowest(left);
         left = taken.rest;
         let k = taken.member;
         least = ground_arithmetic::lesser(least, bound(side, times, k));
@@ -92,19 +52,19 @@ fn strike(
     best: i32,
     downward: bool,
 ) -> Play
-    requires { ⌜ energy.Times (now times) ⌝ }
-    requires { ⌜ energy.Lengths (now lengths) ⌝ }
-    requires { ⌜ load ≡ energy.load (now lengths) set ⌝ }
-    ensures { λ r. ⌜ energy.Strikes (paper.sideOf side) (now (times .entry)) (now (lengths .entry)) best set (r .set) ⌝ }
-    ensures { λ r. ⌜ energy.Beats (paper.sideOf side) (now (times .entry)) (now (lengths .entry)) best set (r .set) ⌝ }
-    ensures { λ r. ⌜ energy.Comes (paper.sideOf side) (now (times .entry)) (now (lengths .entry)) (r .set) (r .least) (r .total) ⌝ }
+    requires { ⌜ sums.Times (now times) ⌝ }
+    requires { ⌜ sums.Lengths (now lengths) ⌝ }
+    requires { ⌜ load ≡ sums.load (now lengths) set ⌝ }
+    ensures { λ r. ⌜ sums.Strikes (paper.sideOf side) (now (times .entry)) (now (lengths .entry)) best set (r .set) ⌝ }
+    ensures { λ r. ⌜ sums.Beats (paper.sideOf side) (now (times .entry)) (now (lengths .entry)) best set (r .set) ⌝ }
+    ensures { λ r. ⌜ sums.Comes (paper.sideOf side) (now (times .entry)) (now (lengths .entry)) (r .set) (r .least) (r .total) ⌝ }
 {
     let mut kept = set;
     let mut least = Board::LAST_MINUTE;
     let mut total = load;
     let mut left = set;
     while left != 0 {
-        let taken = ground_sets::take_next(left, downward);
+        let taken = ground_walks::take_next(left, downward);
         left = taken.rest;
         let k = taken.member;
         let low = bound(side, times, k);
@@ -132,8 +92,8 @@ pub fn energy_bound(
     set: u64,
     floor: i32,
 ) -> EnergyBound
-    requires { ⌜ energy.Times (now times) × energy.Lengths (now lengths) × Moderate floor ⌝ }
-    ensures { λ r. ⌜ energy.Exceeds (energy.Sum (paper.sideOf side) (now (times .entry)) (now (lengths .entry)) set) (paper.turned (paper.sideOf side) floor) (energy.boundOf (paper.sideOf side) r) ⌝ }
+    requires { ⌜ sums.Times (now times) × sums.Lengths (now lengths) × Moderate floor ⌝ }
+    ensures { λ r. ⌜ sums.Exceeds (sums.Sum (paper.sideOf side) (now (times .entry)) (now (lengths .entry)) set) (paper.turned (paper.sideOf side) floor) (sums.boundOf (paper.sideOf side) r) ⌝ }
 {
     let low = turned(side, floor);
     let mut best = low;
@@ -147,20 +107,6 @@ pub fn energy_bound(
     above(side, low, best)
 }
 
-// The same for the job at place k alone.
-pub fn single_bound(
-    side: Side,
-    times: &[i32; Board::JOBS],
-    lengths: &[i32; Board::JOBS],
-    k: usize,
-    floor: i32,
-) -> EnergyBound
-    requires { ⌜ energy.Times (now times) × energy.Lengths (now lengths) × (k < jobLimit) × Moderate floor ⌝ }
-    ensures { λ r. ⌜ energy.boundOf (paper.sideOf side) r ≡ energy.over (paper.turned (paper.sideOf side) floor) (energy.endAt (paper.sideOf side) (now (times .entry)) (now (lengths .entry)) k) ⌝ }
-{
-    above(side, turned(side, floor), end(side, times, lengths, k))
-}
-
 // Does the job at place k end by the floor with the lengths of all of a set added, and is no sum of the set above the floor?
 pub fn ends_by(
     side: Side,
@@ -170,8 +116,8 @@ pub fn ends_by(
     set: u64,
     floor: i32,
 ) -> bool
-    requires { ⌜ energy.Times (now times) × energy.Lengths (now lengths) × (k < jobLimit) × Moderate floor ⌝ }
-    ensures { λ r. ⌜ (r ≡ true → energy.EndsBy (paper.sideOf side) (now (times .entry)) (now (lengths .entry)) k set (paper.turned (paper.sideOf side) floor)) ⌝ }
+    requires { ⌜ sums.Times (now times) × sums.Lengths (now lengths) × (k < jobLimit) × Moderate floor ⌝ }
+    ensures { λ r. ⌜ (r ≡ true → sums.EndsBy (paper.sideOf side) (now (times .entry)) (now (lengths .entry)) k set (paper.turned (paper.sideOf side) floor)) ⌝ }
 {
     let all = whole(side, times, lengths, set);
     let together = ground_arithmetic::sum(end(side, times, lengths, k), all.total);

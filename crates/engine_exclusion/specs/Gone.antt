@@ -19,18 +19,18 @@ use Rattle.paper_board.specs.declared.Board.{Board}
 use Rattle.paper_board.specs.Paper.View.{View, Live, Valid, Invalid, Side, early, late, view, rowOf}
 use Rattle.paper_board.specs.Paper.Facts.{is-bound, is-invalid}
 use Rattle.paper_board.specs.Paper.Limits.{Within}
-use Rattle.paper_board.specs.Paper.Entries.{_⊑_}
-use Rattle.paper_board.specs.Paper.Rules.{E, D, L}
+use Rattle.paper_rules.specs.Paper.Entries.{_⊑_}
+use Rattle.paper_rules.specs.Paper.Rules.{E, D, L}
 use Rattle.paper_board.specs.Paper.Values.{turned}
-use Rattle.paper_board.specs.Inference.Infers.{Infers, Obeys, r2, r6}
-use Rattle.paper_board.specs.Inference.Forced.{forced, invalid-unless}
-use Rattle.paper_board.specs.Order.Laws.{live-down, valid-up, bound-up, length-up}
-use Rattle.paper_board.specs.Update.Compose.{extends-then}
-use Rattle.paper_board.specs.Update.Updates.{update, exclude, invalidate, _andThen_}
-use Rattle.paper_board.specs.Update.Updated.{updated}
-use Rattle.paper_board.specs.Update.Strike.{strike}
-use Rattle.paper_board.specs.Update.StrikeLaws.{strike-induction}
-use Rattle.paper_board.specs.Update.Reaches.{Reached, Reaches}
+use Rattle.paper_rules.specs.Inference.Infers.{Infers, Obeys, r2, r6}
+use Rattle.paper_rules.specs.Inference.Forced.{forced, invalid-unless}
+use Rattle.paper_rules.specs.Order.Laws.{live-down, valid-up, bound-up, length-up}
+use Rattle.paper_rules.specs.Update.Compose.{extends-then}
+use Rattle.paper_rules.specs.Update.Updates.{update, exclude, invalidate, _andThen_}
+use Rattle.paper_rules.specs.Update.Updated.{updated}
+use Rattle.paper_rules.specs.Update.Strike.{strike}
+use Rattle.paper_rules.specs.Update.StrikeLaws.{strike-induction}
+use Rattle.paper_rules.specs.Update.Reaches.{Reached, Reaches}
 
 abbrev pub Gone : Board → ℕ → Type 0
 Gone b j = Live (view b) j × ((w : View) → view b ⊑ w → Obeys w → Invalid w j)

@@ -2,7 +2,7 @@
 // It is sound and need not be complete: what it leaves out the search finds.
 use engine_windows::Window;
 use paper_board::Board;
-ghost use Rattle.engine_energy.specs.Energy.{Times, Lengths};
+ghost use Rattle.engine_sums.specs.Sums.{Times, Lengths};
 ghost use Rattle.engine_exclusion.specs.Gone.{Crossed, Unfit};
 
 // R2: the jobs with arcs both ways to a job of the set.
@@ -12,7 +12,7 @@ pub fn excluded<'a>(set: u64, before: &'a [u64; Board::JOBS], after: &'a [u64; B
     let mut found = 0;
     let mut left = set;
     while left != 0 {
-        let taken = ground_sets::take_lowest(left);
+        let taken = ground_walks::take_lowest(left);
         left = taken.rest;
         let k = taken.member;
         found = ground_sets::union(found, ground_sets::intersection(before[k], after[k]));
@@ -33,7 +33,7 @@ pub fn unfit<'a>(
     let mut found = 0;
     let mut left = set;
     while left != 0 {
-        let taken = ground_sets::take_lowest(left);
+        let taken = ground_walks::take_lowest(left);
         left = taken.rest;
         let k = taken.member;
         let window = Window {

@@ -8,8 +8,8 @@ use lib.IntN.{ℤ, _+ℤ_}
 use lib.Signed.{_≤ℤ_, _<ℤ_}
 use Rattle.paper_board.specs.Paper.View.{View, Live, Valid, Arc, Side, bound}
 use Rattle.paper_board.specs.Paper.Facts.{Fact, Holds}
-use Rattle.paper_board.specs.Paper.Rules.{E, D, L, energy}
-use Rattle.paper_board.specs.Inference.Infers.{Pushing, Infers, r1, r2, r3, r45, r6, Obeys}
+use Rattle.paper_rules.specs.Paper.Rules.{E, D, L, energy}
+use Rattle.paper_rules.specs.Inference.Infers.{Pushing, Infers, r1, r2, r3, r45, r6, Obeys}
 
 -- what is found is inferred and not shown yet; where nothing is found, Q holds
 abbrev pub Searched : View → Type 0 → Option Fact → Type 0

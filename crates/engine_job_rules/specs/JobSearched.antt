@@ -16,15 +16,15 @@ use Rattle.paper_board.specs.declared.Board.{Board}
 use Rattle.paper_board.specs.Paper.View.{View, Live, Valid, Side, early, late, Beyond, view, rowOf}
 use Rattle.paper_board.specs.Paper.Limits.{Within}
 use Rattle.paper_board.specs.Paper.Facts.{Fact, is-bound, is-invalid, Holds}
-use Rattle.paper_board.specs.Paper.Rules.{E, D, L}
+use Rattle.paper_rules.specs.Paper.Rules.{E, D, L}
 use Rattle.paper_board.specs.Paper.Tests.{valid}
 use Rattle.paper_board.specs.Tests.Live.{roomy}
 use Rattle.paper_board.specs.Tests.Decides.{Decides, retested, _and_, holds, valid-is}
-use Rattle.paper_board.specs.Inference.Infers.{Infers, r45, r6}
-use Rattle.engine_energy.specs.Energy.{Sum, boundAt}
-use Rattle.engine_energy.specs.Exact.{timesOf, bound-is, energy-is, sum-beyond, sum-of, exceeds-beyond}
-use Rattle.paper_board.specs.Inference.SumBeyond.{sum-pushes, pushing-sum}
-use Rattle.engine_job_rules.specs.BoundBeyond.{LastUnder, BoundBeyond, pushing}
+use Rattle.paper_rules.specs.Inference.Infers.{Infers, r45, r6}
+use Rattle.engine_sums.specs.Sums.{Sum, boundAt}
+use Rattle.engine_sums.specs.Exact.{timesOf, bound-is, energy-is, sum-beyond, sum-of, exceeds-beyond}
+use Rattle.paper_rules.specs.Inference.SumBeyond.{sum-pushes, pushing-sum}
+use Rattle.engine_bound_beyond.specs.BoundBeyond.{LastUnder, BoundBeyond, pushing}
 use Rattle.engine_findings.specs.Searched.{Searched, JobsObey}
 use Rattle.engine_job_rules.specs.Settled.{Settled, LastEnds, all-obeyed}
 
@@ -43,7 +43,7 @@ pub record SideRead (b : Board) (s : Side) (times lengths : List ℤ) (beyond : 
   pub is-beyond : beyond ≡ wordsOf b s
   pub is-valid : (x : ℕ) → bit valids x ≡ valid (view b) x
 
--- where another job represents job j on side s, R4 or R5 is settled at j (see `Dominance`)
+-- where another job represents job j on side s, R4 or R5 is settled at j (`engine_dominance`)
 abbrev pub Represented : View → Side → ℕ → ℕ → Type 0
 Represented v s r j = r ≢ j → Settled v s j
 

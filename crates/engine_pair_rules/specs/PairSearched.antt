@@ -11,14 +11,14 @@ use lib.Signed.{_<ℤ_, ltZ}
 use borrow.Author.Tests.{eq-eqb, ne-eqb}
 use Rattle.ground_sets.specs.Bit.{bit}
 use Rattle.ground_sets.specs.BitLaws.{bit-zero}
-use Rattle.ground_sets.specs.Walk.{trailing-lowest}
+use Rattle.ground_walks.specs.Walk.{trailing-lowest}
 use Rattle.ground_arithmetic.specs.Bools.{is-true, refuted}
 use Rattle.paper_board.specs.Paper.Limits.{jobLimit}
 use Rattle.paper_board.specs.Paper.View.{View, Live, Valid, Arc}
 use Rattle.paper_board.specs.Paper.Facts.{Fact, is-arc, is-invalid}
-use Rattle.paper_board.specs.Paper.Rules.{E, D, L}
+use Rattle.paper_rules.specs.Paper.Rules.{E, D, L}
 use Rattle.paper_board.specs.Tests.Decides.{Decides, retested, passed, failed, _and_, negated, eq, earlier}
-use Rattle.paper_board.specs.Inference.Infers.{r1, r2, r3}
+use Rattle.paper_rules.specs.Inference.Infers.{r1, r2, r3}
 use Rattle.engine_findings.specs.Searched.{Searched, PairObeys}
 
 -- the members of w: jobs after k, which is valid and after i, that are neither i nor after i

@@ -93,7 +93,7 @@ pub fn at_pair(
     if missing != 0 {
         return Found::Inferred(Fact::Arc {
             from: i,
-            to: ground_sets::lowest(missing),
+            to: ground_walks::lowest(missing),
         });
     }
     Found::Nothing

@@ -19,15 +19,15 @@ use Rattle.paper_board.specs.Paper.View.{Live, Valid, Side, early, late, Beyond
 use Rattle.paper_board.specs.Paper.Facts.{is-bound}
 use Rattle.paper_board.specs.Paper.Limits.{IsTime, Within}
 use Rattle.paper_board.specs.Paper.Values.{turned}
-use Rattle.paper_board.specs.Inference.Infers.{Infers}
+use Rattle.paper_rules.specs.Inference.Infers.{Infers}
 use Rattle.paper_board.specs.Tests.Live.{live-show}
-use Rattle.paper_board.specs.Update.Filled.{filled}
-use Rattle.paper_board.specs.Update.Updates.{update, tighten}
-use Rattle.paper_board.specs.Update.Reaches.{Reached, Reaches, reached-self, reaches-then, further}
-use Rattle.engine_energy.specs.Energy.{boundAt, lengthAt, Times, Lengths, Pushes}
-use Rattle.engine_energy.specs.Exact.{timesOf}
-use Rattle.engine_energy.specs.Laws.{turned-back, sum-range}
-use Rattle.engine_job_rules.specs.BoundBeyond.{pushing}
+use Rattle.paper_rules.specs.Update.Filled.{filled}
+use Rattle.paper_rules.specs.Update.Updates.{update, tighten}
+use Rattle.paper_rules.specs.Update.Reaches.{Reached, Reaches, reached-self, reaches-then, further}
+use Rattle.engine_sums.specs.Sums.{boundAt, lengthAt, Times, Lengths, Pushes}
+use Rattle.engine_sums.specs.Exact.{timesOf}
+use Rattle.engine_sums.specs.Laws.{turned-back, sum-range}
+use Rattle.engine_bound_beyond.specs.BoundBeyond.{pushing}
 use Rattle.engine_job_rules.specs.JobSearched.{wordsOf, beyond-bit, sum-infers}
 use Rattle.engine_exclusion.specs.Gone.{Gone, AllGone, Short, none-gone, only, both-gone, gone-before, gone-short}
 use Rattle.engine_precedence.specs.Bounds.{turned-moderate}

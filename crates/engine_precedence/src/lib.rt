@@ -1,9 +1,10 @@
-// Precedence propagation: the windows of the jobs that are due, in topological order, each bounded by the valid jobs on one side of it. It is
-// sound and need not be complete: what it leaves out the search finds.
-use engine_energy::EnergyBound;
-use engine_job_rules::bound_beyond;
-use engine_job_rules::is_lower;
-use engine_job_rules::last;
+// Precedence propagation: the windows of some jobs, each bounded by the valid jobs on one side of it. It is sound and need not be complete:
+// what it leaves out the search finds.
+use engine_leading::Leading;
+use engine_leading::lasting;
+use engine_leading::leading_to;
+use engine_leading::unknown;
+use engine_sums::is_lower;
 use engine_windows::Window;
 use paper_board::Board;
 use paper_board::facts::Side;
@@ -14,8 +15,8 @@ ghost use Rattle.ground_sets.specs.Bit.{union};
 ghost use Rattle.ground_arithmetic.specs.Time.{Moderate};
 ghost use Rattle.paper_board.specs.Paper.Limits.{jobLimit};
 ghost use Rattle.paper_board.specs.Paper.Values.{sideOf};
-ghost use Rattle.engine_energy.specs.Energy.{Times, Lengths};
-ghost use Rattle.engine_precedence.specs.Leading.{Leaves, LeadsTo, SameBut, Lasts};
+ghost use Rattle.engine_sums.specs.Sums.{Times, Lengths};
+ghost use Rattle.engine_leading.specs.Leading.{Leaves, LeadsTo, SameBut};
 ghost use Rattle.engine_precedence.specs.Precedence as windows;
 
 // R6: does a job of that length fit between its new time on one side and the other end of its window?
@@ -39,38 +40,6 @@ fn holds(side: Side, time: i32, fixed: i32, length: i32) -> bool
             window.holds(length)
         }
     }
-}
-
-// The jobs of a set with no job of `pushing` beyond them.
-fn unpushed(set: u64, pushing: u64, beyond: &[u64; Board::JOBS]) -> u64 {
-    let mut found = 0;
-    let mut left = set;
-    while left != 0 {
-        let taken = ground_sets::take_lowest(left);
-        left = taken.rest;
-        let k = taken.member;
-        if ground_sets::intersection(beyond[k], pushing) == 0 {
-            found = ground_sets::with(found, k);
-        }
-    }
-    found
-}
-
-// The jobs to move next, in topological order: those that are due with no valid one that is due beyond them. `last`, asked from the other
-// side, gives a first one, and what lies behind it has to wait. Nothing is promised of it: any set is sound to move.
-pub fn frontier<'a>(
-    due: u64,
-    valid: u64,
-    beyond: &'a [u64; Board::JOBS],
-    opposite: &'a [u64; Board::JOBS],
-) -> u64 {
-    let pushing = ground_sets::intersection(due, valid);
-    if pushing == 0 {
-        return due;
-    }
-    let first = last(pushing, beyond);
-    let beside = ground_sets::difference(ground_sets::without(due, first), opposite[first]);
-    ground_sets::with(unpushed(beside, pushing, beyond), first)
 }
 
 // The jobs that moved, those that can't move as far as they have to, since they no longer fit their windows, and those that may have to
@@ -116,57 +85,6 @@ fn both(some: Pushed, others: Pushed) -> Pushed
         stuck: ground_sets::union(some.stuck, others.stuck),
         next: ground_sets::union(some.next, others.next),
     }
-}
-
-// A set of valid jobs, and a time, as a bound on one side, that it leaves to the jobs behind it. No jobs: no bound is known.
-struct Leading {
-    set: u64,
-    time: i32,
-}
-
-fn unknown() -> Leading
-    ensures { λ r. ⌜ r .set ≡ 0 ⌝ }
-{
-    Leading { set: 0, time: 0 }
-}
-
-// The valid jobs beyond a job, and a bound that they leave. Many jobs in a row have the same ones beyond them: then the bound known serves
-// again.
-fn leading_to<'a>(
-    side: Side,
-    job: usize,
-    known: Leading,
-    times: &'a [i32; Board::JOBS],
-    lengths: &'a [i32; Board::JOBS],
-    beyond: &'a [u64; Board::JOBS],
-    opposite: &'a [u64; Board::JOBS],
-    valid: u64,
-) -> Leading
-    requires { ⌜ (job < jobLimit) × Times (now times) × Lengths (now lengths) × Leaves (sideOf side) (now times) (now lengths) known ⌝ }
-    ensures { λ r. ⌜ LeadsTo r (now (beyond .entry)) valid job ⌝ }
-    ensures { λ r. ⌜ Leaves (sideOf side) (now (times .entry)) (now (lengths .entry)) r ⌝ }
-{
-    let set = ground_sets::intersection(valid, beyond[job]);
-    if set == known.set {
-        return known;
-    }
-    let bound = bound_beyond(side, job, times, lengths, beyond, opposite, valid, false);
-    let EnergyBound::At(time) = bound else {
-        return unknown();
-    };
-    Leading { set, time }
-}
-
-// What is known once a job may have moved: no bound of a set that has the job. On a board no job is in its own word, which the contract
-// doesn't ask for.
-fn lasting(leading: Leading, job: usize) -> Leading
-    requires { ⌜ job < jobLimit ⌝ }
-    ensures { λ r. ⌜ Lasts leading job r ⌝ }
-{
-    if ground_sets::has(leading.set, job) {
-        return unknown();
-    }
-    leading
 }
 
 // A job's bound on one side put to what the valid jobs beyond it leave to it, where that is above its own and the job still fits.
@@ -220,7 +138,7 @@ pub fn push<'a>(
     let mut known = unknown();
     let mut left = set;
     while left != 0 {
-        let taken = ground_sets::take_lowest(left);
+        let taken = ground_walks::take_lowest(left);
         left = taken.rest;
         let job = taken.member;
         let leading = leading_to(side, job, known, times, lengths, beyond, opposite, valid);

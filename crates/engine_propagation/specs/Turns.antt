@@ -11,13 +11,13 @@ use Rattle.ground_arithmetic.specs.Bools.{and-parts}
 use Rattle.paper_board.specs.declared.Board.{Board}
 use Rattle.paper_board.specs.Paper.View.{Live, Valid, early, late, view}
 use Rattle.paper_board.specs.Paper.Limits.{jobLimit}
-use Rattle.paper_board.specs.Update.Filled.{filled}
-use Rattle.paper_board.specs.Update.Reaches.{Reached, reaches-then}
+use Rattle.paper_rules.specs.Update.Filled.{filled}
+use Rattle.paper_rules.specs.Update.Reaches.{Reached, reaches-then}
 use Rattle.paper_board.specs.Tests.Sets.{subset-difference}
 use Rattle.engine_exclusion.specs.Gone.{AllGone, Crossed, Unfit, none-gone, both-gone, gone-before, crossed-gone, unfit-gone}
-use Rattle.engine_ordering.specs.Arcs.{Sound}
-use Rattle.engine_ordering.specs.Detection.{AllLive}
-use Rattle.engine_ordering.specs.Transitivity.{AllValid}
+use Rattle.engine_arcs.specs.Arcs.{Sound}
+use Rattle.engine_detection.specs.Detection.{AllLive}
+use Rattle.engine_transitivity.specs.Transitivity.{AllValid}
 use Rattle.engine_precedence.specs.Precedence.{Raises, Reads, Shuts}
 
 -- live jobs of the board and valid ones, and its arrays

@@ -1,33 +1,32 @@
 // Propagation: each rule applied where something may have changed, and from there on as far as it leads. It is sound and need not be
 // complete: it leaves the search little to find.
-use crate::agenda::Agenda;
-use crate::agenda::among;
-use crate::agenda::checked;
-use crate::agenda::detected;
-use crate::agenda::due_on;
-use crate::agenda::is_done;
-use crate::agenda::joined;
-use crate::agenda::moved_on;
-use crate::agenda::moved_side;
-use crate::agenda::next_side;
-use crate::agenda::pushed;
+use engine_agenda::Agenda;
+use engine_agenda::among;
+use engine_agenda::checked;
+use engine_agenda::detected;
+use engine_agenda::due_on;
+use engine_agenda::is_done;
+use engine_agenda::joined;
+use engine_agenda::moved_on;
+use engine_agenda::moved_side;
+use engine_agenda::next_side;
+use engine_agenda::pushed;
+use engine_detection::detect_arcs;
+use engine_ends::Ends;
 use engine_exclusion::excluded;
 use engine_exclusion::unfit;
-use engine_ordering::detection::detect_arcs;
-use engine_ordering::transitivity::join_arcs;
-use engine_precedence::frontier;
+use engine_frontier::frontier;
 use engine_precedence::push;
+use engine_transitivity::join_arcs;
 use paper_board::Board;
 use paper_board::facts::Side;
 ghost use mathlib.Core.List.{List};
 ghost use Prim.Native.Nat.{ℕ};
 ghost use lib.IntN.{ℤ};
 ghost use Rattle.paper_board.specs.Paper.Values.{sideOf};
-ghost use Rattle.engine_energy.specs.Energy.{Times, Lengths};
+ghost use Rattle.engine_sums.specs.Sums.{Times, Lengths};
 ghost use Rattle.engine_precedence.specs.Precedence.{Raises, Reads, Shuts};
 ghost use Rattle.engine_propagation.specs.Turns.{Onward, Shut};
-
-pub mod agenda;
 
 // How many turns there are at the most. What they leave the search finds.
 const TURNS: usize = 65536;
@@ -58,7 +57,7 @@ fn turn_arcs(
         };
     }
     let through = ground_sets::intersection(left.through, valid);
-    let found = join_arcs(before, after, through, live);
+    let found: Ends = join_arcs(before, after, through, live);
     Turned {
         left: joined(left, found),
         stuck: 0,
@@ -92,7 +91,7 @@ fn turn_order<'a>(
     }
     let side = moved_side(left);
     let due = moved_on(left, side);
-    let found = detect_arcs(
+    let found: Ends = detect_arcs(
         side,
         before,
         after,

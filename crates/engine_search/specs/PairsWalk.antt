@@ -11,7 +11,7 @@ use lib.IntN.{ℤ, pos, _+ℤ_}
 use lib.ListN.{getD}
 use Rattle.ground_sets.specs.Bit.{bit, difference}
 use Rattle.ground_sets.specs.BitLaws.{bit-difference, part-at-most}
-use Rattle.ground_sets.specs.Walk.{Left}
+use Rattle.ground_walks.specs.Walk.{Left}
 use Rattle.ground_arithmetic.specs.Bools.{is-false, refuted}
 use Rattle.ground_arithmetic.specs.Time.{Moderate}
 use Rattle.paper_board.specs.declared.Board.{Board}
@@ -20,15 +20,15 @@ use Rattle.paper_board.specs.Paper.Facts.{Fact}
 use Rattle.paper_board.specs.Paper.Limits.{jobLimit, Within}
 use Rattle.paper_board.specs.Paper.Tests.{live}
 use Rattle.paper_board.specs.Tests.Decides.{Decides, retested, _and_, negated, holds, live-is}
-use Rattle.paper_board.specs.Inference.Infers.{Obeys}
+use Rattle.paper_rules.specs.Inference.Infers.{Obeys}
 use Rattle.engine_job_rules.specs.JobSearched.{JobRead, JobSettled}
 use Rattle.engine_job_rules.specs.JobSearched as jobs
 use Rattle.engine_findings.specs.Searched.{Searched, PairObeys}
 use Rattle.engine_job_rules.specs.Settled.{Settled}
 use Rattle.engine_search.specs.declared.Pair.{Pair}
 use Rattle.engine_search.specs.declared.Pair.the-variants.{None, At}
-use Rattle.engine_search.specs.Rows.{RowRead}
-use Rattle.engine_search.specs.Settled.{PairsSettled, RowSettled, settled-obey}
+use Rattle.engine_partners.specs.Rows.{RowRead}
+use Rattle.engine_partners.specs.Settled.{PairsSettled, RowSettled, settled-obey}
 
 -- the numbers and words are those of the board, `lives` and `valids` its live jobs and its valid jobs
 pub record Read (b : Board) (lives valids : ℕ) (earliest latest lengths : List ℤ) (before after : List ℕ) : Type 0 where

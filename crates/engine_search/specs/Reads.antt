@@ -5,8 +5,8 @@ use Rattle.ground_sets.specs.Bit.{bit}
 use Rattle.paper_board.specs.declared.Board.{Board}
 use Rattle.paper_board.specs.Paper.View.{early, late}
 use Rattle.paper_board.specs.Paper.Limits.{Within}
-use Rattle.engine_energy.specs.Energy.{Times, Lengths}
-use Rattle.engine_energy.specs.Exact.{times-within, lengths-within}
+use Rattle.engine_sums.specs.Sums.{Times, Lengths}
+use Rattle.engine_sums.specs.Exact.{times-within, lengths-within}
 use Rattle.engine_marks.specs.Marked.{marked, unmarked, bit-valid, bit-live}
 use Rattle.engine_search.specs.PairsWalk.{Read}
 

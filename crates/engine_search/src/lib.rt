@@ -1,23 +1,21 @@
 // "for every ordered pair of two live jobs": the first inference that the board doesn't show yet, if any.
-use crate::partners::ends_late;
-use crate::partners::latest_start;
-use crate::partners::partners;
+use engine_dominance::representative;
 use engine_findings::Found;
 use engine_job_rules::at_job;
-use engine_job_rules::representative;
 use engine_pair_rules::applies;
 use engine_pair_rules::at_pair;
+use engine_partners::ends_late;
+use engine_partners::latest_start;
+use engine_partners::partners;
 use paper_board::Board;
 use paper_board::facts::Side;
 ghost use Prim.Native.Nat.{_<_};
 ghost use Rattle.paper_board.specs.Paper.Limits.{jobLimit};
-ghost use Rattle.paper_board.specs.Inference.Infers.{Obeys};
-ghost use Rattle.engine_energy.specs.Energy.{Times, Lengths};
+ghost use Rattle.paper_rules.specs.Inference.Infers.{Obeys};
+ghost use Rattle.engine_sums.specs.Sums.{Times, Lengths};
 ghost use Rattle.engine_findings.specs.Values.{inferredOf};
-ghost use Rattle.engine_search.specs.Settled.{PairsSettled};
+ghost use Rattle.engine_partners.specs.Settled.{PairsSettled};
 ghost use Rattle.engine_search.specs.PairsWalk.{ReadSearched, EarliestEnd, PairFound, JobsSettled};
-
-pub mod partners;
 
 // A pair of jobs at which a rule applies, where there is one.
 enum Pair {
@@ -50,7 +48,7 @@ fn find_pair<'a>(
     let mut found = Pair::None;
     let mut rows = live;
     'pairs: while rows != 0 {
-        let taken = ground_sets::take_lowest(rows);
+        let taken = ground_walks::take_lowest(rows);
         rows = taken.rest;
         let i = taken.member;
         let end = earliest_end(i, earliest, lengths);
@@ -69,7 +67,7 @@ fn find_pair<'a>(
             after,
         );
         while others != 0 {
-            let taken = ground_sets::take_lowest(others);
+            let taken = ground_walks::take_lowest(others);
             others = taken.rest;
             let k = taken.member;
             let late = ends_late(k, end, latest, lengths);
@@ -122,7 +120,7 @@ fn at_jobs<'a>(
     let mut early = 0;
     let mut late = 0;
     while left != 0 {
-        let taken = ground_sets::take_lowest(left);
+        let taken = ground_walks::take_lowest(left);
         let i = taken.member;
         let done = ground_sets::difference(live, left);
         left = taken.rest;

@@ -1,2 +1,2 @@
--- Updates of a board by one fact, as code: the definitions stand in the crate board.
+-- Updates of a board by one fact, as code: the definitions stand in `paper_rules`.
 pub mod Applicable

@@ -17,8 +17,8 @@ ghost use Rattle.paper_board.specs.declared.Board as boards;
 ghost use Rattle.paper_board.specs.Paper.Limits.{jobLimit, Within};
 ghost use Rattle.paper_board.specs.Paper.Facts.{is-bound, is-valid, Known};
 ghost use Rattle.paper_board.specs.Paper.Values.{sideOf, turned, factOf};
-ghost use Rattle.paper_board.specs.Update.Updates as updates;
-ghost use Rattle.paper_board.specs.Update.Filled.{filled, possibly, ArraysWithin, Alters};
+ghost use Rattle.paper_rules.specs.Update.Updates as updates;
+ghost use Rattle.paper_rules.specs.Update.Filled.{filled, possibly, ArraysWithin, Alters};
 ghost use Rattle.engine_updates.specs.Applicable.{Timely};
 
 // "Only an entry makes a job valid."

@@ -8,7 +8,7 @@ use Rattle.ground_arithmetic.specs.Time.{Moderate}
 use Rattle.engine_windows.specs.declared.Window.{Window}
 use Rattle.paper_board.specs.Paper.View.{Row, Side, early, late, bound}
 use Rattle.paper_board.specs.Paper.Values.{turned}
-use Rattle.paper_board.specs.Update.Updates.{raised}
+use Rattle.paper_rules.specs.Update.Updates.{raised}
 use Rattle.engine_windows.specs.Windows.{edge, bounded, windowOf, moved}
 
 -- the late side turns the order

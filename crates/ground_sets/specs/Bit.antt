@@ -1,9 +1,7 @@
 -- A set of jobs as one number: bit k is 1 where job k is in the set. `difference` and `without` complement a set, so they
 -- take the width n that the sets fit. What these definitions mean for the members is in BitLaws. Assumes nothing.
-use Prim.Native.Nat.{ℕ, zero, suc, _+_, _-_, _*_, _/_, _%_, _^_, _<_}
-use mathlib.Core.Path.{_≡_}
-use mathlib.Core.Logic.{_≢_}
-use mathlib.Core.Bool.{Bool, true, false, cond}
+use Prim.Native.Nat.{ℕ, zero, suc, _+_, _-_, _*_, _/_, _%_, _^_}
+use mathlib.Core.Bool.{Bool, cond}
 use lib.Bits.{bitAnd, bitOr}
 use lib.Dec.{eqb}
 
@@ -37,31 +35,3 @@ without n w k = difference n w (singleton k)
 unfoldable pub setOf : ℕ → (ℕ → Bool) → ℕ
 setOf zero t = 0
 setOf (suc n) t = cond (t 0) 1 0 + 2 * setOf n (λ k. t (suc k))
-
--- k is the least member of the set w, of jobs below n
-pub record Lowest (n w k : ℕ) : Type 0 where
-  pub width : k < n
-  pub member : bit w k ≡ true
-  pub least : (j : ℕ) → j < k → bit w j ≡ false
-
--- k is the greatest member of the set w, of jobs below n
-pub record Highest (n w k : ℕ) : Type 0 where
-  pub width : k < n
-  pub member : bit w k ≡ true
-  pub greatest : (j : ℕ) → k < j → bit w j ≡ false
-
--- k is the next job of a walk over the set w: its least member or, on a walk downward, its greatest
-unfoldable pub Next : ℕ → Bool → ℕ → ℕ → Type 0
-Next n false w k = Lowest n w k
-Next n true w k = Highest n w k
-
--- the next job k of a walk over the set w, taken out of it, and the rest: what is left is in the set, and less than it, so that a walk ends
-pub record Takes (n : ℕ) (downward : Bool) (w k rest : ℕ) : Type 0 where
-  pub next : Next n downward w k
-  pub width : k < n
-  pub member : bit w k ≡ true
-  pub left : rest ≡ without n w k
-  pub out : bit rest k ≡ false
-  pub others : (j : ℕ) → j ≢ k → bit rest j ≡ bit w j
-  pub inside : (j : ℕ) → bit rest j ≡ true → bit w j ≡ true
-  pub falls : rest < w

@@ -1,4 +1,3 @@
 -- Sets of jobs as words: the definitions, and their laws.
 pub mod Bit
 pub mod BitLaws
-pub mod Walk

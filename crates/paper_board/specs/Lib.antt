@@ -1,7 +1,3 @@
--- The paper as definitions, and the mathematics of it that needs no computation.
+-- A board and its limits as the paper has them, and what the tests of it decide.
 pub mod Paper
-pub mod Order
-pub mod Inference
-pub mod Schedule
 pub mod Tests
-pub mod Update

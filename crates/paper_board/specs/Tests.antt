@@ -3,7 +3,6 @@ pub mod Live
 pub mod Decides
 pub mod Limits
 pub mod LimitsDecided
-pub mod Empty
 pub mod Ranges
 pub mod Bounds
 pub mod Sets

@@ -8,16 +8,16 @@ use Rattle.paper_board.specs.declared.Board.{Board}
 use Rattle.paper_board.specs.declared.Books.{Books}
 use Rattle.paper_board.specs.Paper.View.{view}
 use Rattle.paper_board.specs.Paper.Facts.{Fact}
-use Rattle.paper_board.specs.Inference.Infers.{Obeys}
+use Rattle.paper_rules.specs.Inference.Infers.{Obeys}
 use Rattle.paper_board.specs.Paper.Limits.{Within, BooksWithin, emptyBoard}
 use Rattle.paper_board.specs.Tests.Limits.{withinLimits, booksLimits}
 use Rattle.paper_board.specs.Tests.LimitsDecided.{limits-yes, limits-show, decides-books}
-use Rattle.paper_board.specs.Tests.Empty.{within-empty, empty-obeys}
-use Rattle.paper_board.specs.Paper.Entries.{shown}
-use Rattle.paper_board.specs.Paper.Closed.{Closed, Least}
-use Rattle.paper_board.specs.Order.Leastness.{handed-in}
-use Rattle.paper_board.specs.Inference.Agrees.{obeys-rules, rules-obey}
-use Rattle.paper_board.specs.Update.Reaches.{reached-self}
+use Rattle.paper_rules.specs.Order.Empty.{within-empty, empty-obeys}
+use Rattle.paper_rules.specs.Paper.Entries.{shown}
+use Rattle.paper_rules.specs.Paper.Closed.{Closed, Least}
+use Rattle.paper_rules.specs.Order.Leastness.{handed-in}
+use Rattle.paper_rules.specs.Inference.Agrees.{obeys-rules, rules-obey}
+use Rattle.paper_rules.specs.Update.Reaches.{reached-self}
 use Rattle.paper_closure.specs.Find.{find}
 use Rattle.paper_closure.specs.FindSound.{find-sound}
 use Rattle.paper_closure.specs.FindComplete.{find-complete}

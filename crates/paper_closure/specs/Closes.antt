@@ -9,15 +9,15 @@ use Rattle.ground_arithmetic.specs.Linear.{whole}
 use Rattle.paper_board.specs.declared.Board.{Board}
 use Rattle.paper_board.specs.Paper.View.{Valid, view}
 use Rattle.paper_board.specs.Paper.Facts.{Fact, Holds}
-use Rattle.paper_board.specs.Inference.Infers.{Obeys}
+use Rattle.paper_rules.specs.Inference.Infers.{Obeys}
 use Rattle.paper_board.specs.Paper.Limits.{Within}
-use Rattle.paper_board.specs.Order.Laws.{holds-up}
-use Rattle.paper_board.specs.Inference.Forced.{forced, valid-live}
-use Rattle.paper_board.specs.Update.Extension.{above-self, Extends}
-use Rattle.paper_board.specs.Update.Compose.{extends-then, one-outcome}
-use Rattle.paper_board.specs.Update.Updates.{update, _andThen_}
-use Rattle.paper_board.specs.Update.Updated.{updated}
-use Rattle.paper_board.specs.Update.Reaches.{infers-known}
+use Rattle.paper_rules.specs.Order.Laws.{holds-up}
+use Rattle.paper_rules.specs.Inference.Forced.{forced, valid-live}
+use Rattle.paper_rules.specs.Update.Extension.{above-self, Extends}
+use Rattle.paper_rules.specs.Update.Compose.{extends-then, one-outcome}
+use Rattle.paper_rules.specs.Update.Updates.{update, _andThen_}
+use Rattle.paper_rules.specs.Update.Updated.{updated}
+use Rattle.paper_rules.specs.Update.Reaches.{infers-known}
 use Rattle.paper_closure.specs.Find.{find}
 use Rattle.paper_closure.specs.FindSound.{find-sound}
 use Rattle.paper_closure.specs.FindComplete.{find-complete}

@@ -4,7 +4,7 @@ use Prim.Native.Nat.{ℕ, zero, suc, _+_, _*_}
 use Rattle.paper_board.specs.declared.Board.{Board}
 use Rattle.paper_board.specs.Paper.View.{view}
 use Rattle.paper_board.specs.Paper.Limits.{jobLimit}
-use Rattle.paper_board.specs.Update.Updates.{update, _andThen_}
+use Rattle.paper_rules.specs.Update.Updates.{update, _andThen_}
 use Rattle.paper_closure.specs.Find.{find}
 
 -- Each inference uses up a minute of a window, an arc or a live job, so that there are never more steps than this.

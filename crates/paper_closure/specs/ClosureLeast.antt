@@ -5,10 +5,10 @@ use mathlib.Core.Option.{Option, none, some}
 use Rattle.paper_board.specs.declared.Board.{Board}
 use Rattle.paper_board.specs.Paper.View.{view}
 use Rattle.paper_board.specs.Paper.Limits.{Within, BooksWithin}
-use Rattle.paper_board.specs.Paper.Entries.{Entries, shown}
-use Rattle.paper_board.specs.Paper.Closed.{Least, Contradiction}
-use Rattle.paper_board.specs.Order.Leastness.{below-least, impossible-contradiction}
-use Rattle.paper_board.specs.Inference.Agrees.{obeys-rules}
+use Rattle.paper_rules.specs.Paper.Entries.{Entries, shown}
+use Rattle.paper_rules.specs.Paper.Closed.{Least, Contradiction}
+use Rattle.paper_rules.specs.Order.Leastness.{below-least, impossible-contradiction}
+use Rattle.paper_rules.specs.Inference.Agrees.{obeys-rules}
 use Rattle.paper_closure.specs.Closing.{closure}
 use Rattle.paper_closure.specs.Closes.{ClosedTo, closure-closes}
 

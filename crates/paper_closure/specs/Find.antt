@@ -7,7 +7,7 @@ use lib.IntN.{ℤ, _+ℤ_}
 use lib.Signed.{leZ, ltZ}
 use Rattle.paper_board.specs.Paper.View.{View, Side, early, late, bound}
 use Rattle.paper_board.specs.Paper.Facts.{Fact, is-arc, is-bound, is-invalid}
-use Rattle.paper_board.specs.Paper.Rules.{energy}
+use Rattle.paper_rules.specs.Paper.Rules.{energy}
 use Rattle.paper_board.specs.Paper.Tests.{live, valid}
 use Rattle.paper_board.specs.Tests.Live.{roomy}
 

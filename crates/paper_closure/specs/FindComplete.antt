@@ -10,9 +10,9 @@ use Rattle.ground_arithmetic.specs.Linear.{whole, plus}
 use Rattle.ground_arithmetic.specs.Sum.{total-subset}
 use Rattle.paper_board.specs.Paper.View.{View, Live, Valid, Side, early, late, bound, Beyond}
 use Rattle.paper_board.specs.Paper.Facts.{Fact}
-use Rattle.paper_board.specs.Paper.Rules.{energy}
-use Rattle.paper_board.specs.Inference.Infers.{Pushing, r1, r2, r3, r45, r6, Obeys}
-use Rattle.paper_board.specs.Inference.SumBeyond.{SumBeyond, pushing-sum}
+use Rattle.paper_rules.specs.Paper.Rules.{energy}
+use Rattle.paper_rules.specs.Inference.Infers.{Pushing, r1, r2, r3, r45, r6, Obeys}
+use Rattle.paper_rules.specs.Inference.SumBeyond.{SumBeyond, pushing-sum}
 use Rattle.paper_closure.specs.Find.{_orElse_, pushers, pushed, push, next, find}
 use Rattle.paper_closure.specs.FindTests.{room-is, exclude-is, order-is, join-is, pusher-is, push-is}
 use Rattle.paper_closure.specs.Search.{guard-none, orElse-none, first-none}

@@ -5,7 +5,7 @@ use Prim.Native.Nat.{ℕ}
 use Rattle.ground_arithmetic.specs.Linear.{whole}
 use Rattle.paper_board.specs.Paper.View.{View, Live, Valid, Arc, Side, early, late, bound, Beyond}
 use Rattle.paper_board.specs.Paper.Facts.{Fact, is-arc, is-invalid, Holds}
-use Rattle.paper_board.specs.Inference.Infers.{Pushing, Infers, r1, r2, r3, r45, r6}
+use Rattle.paper_rules.specs.Inference.Infers.{Pushing, Infers, r1, r2, r3, r45, r6}
 use Rattle.paper_board.specs.Paper.Tests.{valid}
 use Rattle.paper_closure.specs.Find.{pushers, pushed, push, next, find}
 use Rattle.paper_closure.specs.Search.{Finds, guard-finds, _else_, first-finds}

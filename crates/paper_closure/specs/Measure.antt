@@ -12,10 +12,10 @@ use Rattle.ground_arithmetic.specs.Sum.{count, count-mono, count-falls, count-b
 use Rattle.paper_board.specs.declared.Board.{Board}
 use Rattle.paper_board.specs.Paper.View.{Row, View, Live, Arc, Invalid, Side, early, late, bound, view, rowOf}
 use Rattle.paper_board.specs.Paper.Facts.{Fact, is-arc, is-bound, Holds}
-use Rattle.paper_board.specs.Inference.Infers.{Infers, r1, r2, r3, r45, r6}
+use Rattle.paper_rules.specs.Inference.Infers.{Infers, r1, r2, r3, r45, r6}
 use Rattle.paper_board.specs.Paper.Limits.{Fits, Within, jobLimit, lastMinute}
-use Rattle.paper_board.specs.Order.Laws.{live-down, arc-up, bound-up}
-use Rattle.paper_board.specs.Update.Extension.{Above}
+use Rattle.paper_rules.specs.Order.Laws.{live-down, arc-up, bound-up}
+use Rattle.paper_rules.specs.Update.Extension.{Above}
 use Rattle.paper_board.specs.Paper.Tests.{live}
 use Rattle.paper_board.specs.Tests.Live.{live-yes, live-show}
 use Rattle.paper_board.specs.Tests.Decides.{Decides, _and_, negated, holds, live-is}

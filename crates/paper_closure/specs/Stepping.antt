@@ -6,11 +6,11 @@ use Rattle.paper_board.specs.declared.Board.{Board}
 use Rattle.paper_board.specs.Paper.View.{view}
 use Rattle.paper_board.specs.Paper.Facts.{Fact, Holds}
 use Rattle.paper_board.specs.Paper.Limits.{Within}
-use Rattle.paper_board.specs.Inference.Infers.{Infers, Obeys}
-use Rattle.paper_board.specs.Update.Extension.{Updated}
-use Rattle.paper_board.specs.Update.Updates.{update}
-use Rattle.paper_board.specs.Update.Updated.{updated}
-use Rattle.paper_board.specs.Update.Reaches.{infers-known, Reaches, Reached, further}
+use Rattle.paper_rules.specs.Inference.Infers.{Infers, Obeys}
+use Rattle.paper_rules.specs.Update.Extension.{Updated}
+use Rattle.paper_rules.specs.Update.Updates.{update}
+use Rattle.paper_rules.specs.Update.Updated.{updated}
+use Rattle.paper_rules.specs.Update.Reaches.{infers-known, Reaches, Reached, further}
 use Rattle.paper_closure.specs.Measure.{measure, measure-falls}
 use Rattle.paper_closure.specs.Closing.{closure}
 use Rattle.paper_closure.specs.Closes.{ClosedTo, closure-is}

@@ -14,14 +14,14 @@ use Rattle.ground_arithmetic.specs.Bools.{clash}
 use Rattle.paper_board.specs.declared.Board.{Board}
 use Rattle.paper_board.specs.declared.Books.{Books}
 use Rattle.paper_board.specs.declared.Refusal.{Refusal}
-use Rattle.paper_board.specs.Inference.LeastClosed.{closed-least}
-use Rattle.paper_board.specs.Paper.Closed.{Closed, Least, Contradiction}
-use Rattle.paper_board.specs.Paper.Entries.{Entries, shown}
+use Rattle.paper_rules.specs.Inference.LeastClosed.{closed-least}
+use Rattle.paper_rules.specs.Paper.Closed.{Closed, Least, Contradiction}
+use Rattle.paper_rules.specs.Paper.Entries.{Entries, shown}
 use Rattle.paper_board.specs.Paper.Equality.{Same}
 use Rattle.paper_board.specs.Paper.Limits.{BooksWithin, emptyBoard}
 use Rattle.paper_board.specs.Paper.Parts.{withBooks, withTally}
-use Rattle.paper_board.specs.Paper.Rules.{E, D}
-use Rattle.paper_board.specs.Paper.Schedules.{Placing, Schedule}
+use Rattle.paper_rules.specs.Paper.Rules.{E, D}
+use Rattle.paper_rules.specs.Paper.Schedules.{Placing, Schedule}
 use Rattle.paper_board.specs.Paper.View.{View, Live, Valid, Invalid, Arc, view}
 use Rattle.paper_entries.specs.Paper.Answers.{no-number, replyOf, shows-row, rowReplyOf, shows-pair, pairReplyOf}
 use Rattle.paper_entries.specs.Paper.Enter.{acceptance, enter}
@@ -29,16 +29,16 @@ use Rattle.paper_entries.specs.Paper.Entry.{Statement, Entry, other, number, en
 use Rattle.paper_entries.specs.Paper.Exact.{Outcome}
 use Rattle.paper_entries.specs.Paper.Gate.{checks, gate}
 use Rattle.paper_entries.specs.Paper.Looking as Looking
-use Rattle.paper_entries.specs.Paper.Sequence.{Call, outcome, after, kept, accepted, impossibles, Each}
+use Rattle.paper_entries.specs.Paper.Sequence.{Call, outcome, after, kept, accepted, impossibles, Each, finalBoard, acceptedBy}
 use Rattle.paper_entries.specs.Rearranged.{same-swapped, same-repeated}
 use Rattle.paper_plans.specs.Paper.Answers.{plan-found, plan-none, plan-spent, planReplyOf}
 use Rattle.paper_plans.specs.Paper.Exact.{IsBudget, triesTaken, ending}
 use Rattle.paper_plans.specs.Paper.Planner.{validJobs, plan}
 use Rattle.paper_plans.specs.Paper.Tries.{tries}
-use Rattle.paper_demands.specs.Paper.Requests as Requests
-use Rattle.paper_demands.specs.Paper.Requests.{Request, entry, row, pair, Sort, sortOf, refusalsOf, checksOf, refusal, boardAfter}
+use Rattle.paper_requests.specs.Paper.Requests as Requests
+use Rattle.paper_requests.specs.Paper.Requests.{Request, entry, row, pair, Sort, sortOf, refusalsOf, checksOf, refusal, boardAfter}
 use Rattle.paper_demands.specs.Paper.Views.{Arcs, no-arc, forth, back, both}
-use Rattle.paper_demands.specs.Demands.{InOrder, Demand1, Demand2, PlanFound, PlanEnds, finalBoard, acceptedBy, Demand3, Demands}
+use Rattle.paper_demands.specs.Demands.{InOrder, Demand1, Demand2, PlanFound, PlanEnds, Demand3, Demands}
 use Rattle.paper_demands.specs.DemandsHold.{demands}
 
 -- ---- demand 1

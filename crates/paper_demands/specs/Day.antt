@@ -14,15 +14,15 @@ use Rattle.ground_arithmetic.specs.Bools.{clash, refuted}
 use Rattle.ground_arithmetic.specs.Linear.{whole}
 use Rattle.paper_board.specs.declared.Board.{Board}
 use Rattle.paper_board.specs.declared.Refusal.the-variants as Refused
-use Rattle.paper_board.specs.Paper.Closed.{Closed, LeastClosed, Contradiction}
-use Rattle.paper_board.specs.Paper.Entries.{Entries}
+use Rattle.paper_rules.specs.Paper.Closed.{Closed, LeastClosed, Contradiction}
+use Rattle.paper_rules.specs.Paper.Entries.{Entries}
 use Rattle.paper_board.specs.Paper.Limits.{BooksWithin, emptyBoard}
 use Rattle.paper_board.specs.Paper.Parts.{emptyBooks, withTally}
-use Rattle.paper_board.specs.Paper.Rules.{E}
-use Rattle.paper_board.specs.Paper.Schedules.{Placing, Placed, Schedule}
+use Rattle.paper_rules.specs.Paper.Rules.{E}
+use Rattle.paper_rules.specs.Paper.Schedules.{Placing, Placed, Schedule}
 use Rattle.paper_board.specs.Paper.View.{View, Arc, view, rowOf}
-use Rattle.paper_board.specs.Tests.Empty.{within-emptyBooks}
-use Rattle.paper_board.specs.Update.Limits.{within-tally}
+use Rattle.paper_rules.specs.Order.Empty.{within-emptyBooks}
+use Rattle.paper_rules.specs.Update.Limits.{within-tally}
 use Rattle.paper_entries.specs.declared.Answer.the-variants as Answers
 use Rattle.paper_entries.specs.Answered.{answered-impossible}
 use Rattle.paper_entries.specs.Paper.Answers.{shows-row, rowReplyOf, shows-pair, pairReplyOf}
@@ -30,18 +30,18 @@ use Rattle.paper_entries.specs.Paper.Enter.{counted, enter}
 use Rattle.paper_entries.specs.Paper.Entry.{arc, entries, other, withEntry}
 use Rattle.paper_entries.specs.Paper.Exact.{Outcome}
 use Rattle.paper_entries.specs.Paper.Looking as Looking
-use Rattle.paper_entries.specs.Paper.Sequence.{kept, Each}
+use Rattle.paper_entries.specs.Paper.Sequence.{kept, Each, finalBoard, acceptedBy}
 use Rattle.paper_plans.specs.Paper.Answers.{plan-found, plan-none, plan-spent, planReplyOf}
 use Rattle.paper_plans.specs.Paper.Exact.{IsBudget, taken, triesTaken, ending}
 use Rattle.paper_plans.specs.Paper.Planner as Planner
 use Rattle.paper_plans.specs.Paper.Tries as Tries
 use Rattle.paper_plans.specs.Paper.Tries.{planOf}
-use Rattle.paper_demands.specs.Paper.Requests.{Request, entry, row, a-cut, sortOf, refusal, boardAfter}
+use Rattle.paper_requests.specs.Paper.Requests.{Request, entry, row, a-cut, sortOf, refusal, boardAfter}
 use Rattle.paper_demands.specs.Paper.Views.{Arcs, no-arc, forth, back, both, PairShows}
-use Rattle.paper_demands.specs.Demands.{InOrder, Demand2, PlanEnds, finalBoard, acceptedBy, Demand3, Demands}
+use Rattle.paper_demands.specs.Demands.{InOrder, Demand2, PlanEnds, Demand3, Demands}
 use Rattle.paper_demands.specs.Consequences.{any-order, any-repeat}
-use Rattle.paper_demands.specs.SampleEntries.{job, marked, arrow, cutTo}
-use Rattle.paper_demands.specs.Samples.{day, booked, swapped, repeated, tooLong, apart, crowded, fullBooks, computed, day-facts}
+use Rattle.paper_requests.specs.SampleEntries.{job, marked, arrow, cutTo}
+use Rattle.paper_requests.specs.Samples.{day, booked, swapped, repeated, tooLong, apart, crowded, fullBooks, computed, day-facts}
 
 abbrev dayBoard : Board
 dayBoard = finalBoard emptyBooks day

@@ -23,10 +23,10 @@ use Rattle.paper_entries.specs.Paper.Enter.{counted, enter}
 use Rattle.paper_entries.specs.Paper.Entry.{arc, mark, cut, Entry, addition, other}
 use Rattle.paper_entries.specs.Paper.Gate.{gate}
 use Rattle.paper_plans.specs.Paper.Lists.{among}
-use Rattle.paper_demands.specs.Paper.Requests.{Request, entry, row, pair, plan, Sort, an-addition, an-arc, a-mark, a-cut, a-row, a-pair, a-plan, sortOf, refusalsOf, checksOf, refusal, boardAfter}
+use Rattle.paper_requests.specs.Paper.Requests.{Request, entry, row, pair, plan, Sort, an-addition, an-arc, a-mark, a-cut, a-row, a-pair, a-plan, sortOf, refusalsOf, checksOf, refusal, boardAfter}
 use Rattle.paper_demands.specs.Demands.{InOrder, Demand1}
-use Rattle.paper_demands.specs.RefusalLaws.{refused-number, refused-zero, refused-table, passed-result}
-use Rattle.paper_demands.specs.Witnesses.{witnesses}
+use Rattle.paper_requests.specs.RefusalLaws.{refused-number, refused-zero, refused-table, passed-result}
+use Rattle.paper_requests.specs.Witnesses.{witnesses}
 
 -- ---- the numbers of a call
 

@@ -7,8 +7,8 @@ use mathlib.Core.Option.{none}
 use Rattle.ground_arithmetic.specs.Bools.{clash}
 use Rattle.paper_board.specs.declared.Board.{Board}
 use Rattle.paper_board.specs.declared.Books.{Books}
-use Rattle.paper_board.specs.Paper.Closed.{LeastClosed}
-use Rattle.paper_board.specs.Paper.Entries.{Entries, shown}
+use Rattle.paper_rules.specs.Paper.Closed.{LeastClosed}
+use Rattle.paper_rules.specs.Paper.Entries.{Entries, shown}
 use Rattle.paper_board.specs.Paper.Limits.{BooksWithin}
 use Rattle.paper_board.specs.Paper.View.{view}
 use Rattle.paper_closure.specs.Check.{passes}
@@ -19,14 +19,14 @@ use Rattle.paper_entries.specs.Paper.Answers.{replyOf}
 use Rattle.paper_entries.specs.Paper.Enter.{acceptance, enter}
 use Rattle.paper_entries.specs.Paper.Entry.{Entry, entries, withEntry}
 use Rattle.paper_entries.specs.Paper.Exact.{Outcome, by-table, impossible, accepted}
-use Rattle.paper_entries.specs.Paper.Sequence.{Call}
+use Rattle.paper_entries.specs.Paper.Sequence.{Call, finalBoard, acceptedBy}
 use Rattle.paper_entries.specs.Reached.{Reached}
 use Rattle.paper_entries.specs.Stepped.{outcome, reached-shown}
 use Rattle.paper_plans.specs.Ends.{plan-ending}
-use Rattle.paper_demands.specs.Paper.Requests.{entryRefusal}
-use Rattle.paper_demands.specs.Demands.{InOrder, Demand2, finalBoard, acceptedBy}
+use Rattle.paper_requests.specs.Paper.Requests.{entryRefusal}
+use Rattle.paper_demands.specs.Demands.{InOrder, Demand2}
 use Rattle.paper_demands.specs.Held.{held}
-use Rattle.paper_demands.specs.RefusalLaws.{refused-number}
+use Rattle.paper_requests.specs.RefusalLaws.{refused-number}
 use Rattle.paper_demands.specs.ViewLaws.{row-shows, pair-shows}
 
 -- an accepted entry

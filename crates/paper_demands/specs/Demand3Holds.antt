@@ -11,16 +11,16 @@ use lib.IntN.{ℤ}
 use Rattle.ground_arithmetic.specs.Bools.{clash}
 use Rattle.paper_board.specs.declared.Board.{Board}
 use Rattle.paper_board.specs.declared.Books.{Books}
-use Rattle.paper_board.specs.Inference.Agrees.{obeys-rules}
-use Rattle.paper_board.specs.Inference.LeastClosed.{least-closed}
-use Rattle.paper_board.specs.Order.Leastness.{impossible-contradiction}
-use Rattle.paper_board.specs.Paper.Closed.{Least, Contradiction}
-use Rattle.paper_board.specs.Paper.Entries.{Entries, Admissible, shown}
+use Rattle.paper_rules.specs.Inference.Agrees.{obeys-rules}
+use Rattle.paper_rules.specs.Inference.LeastClosed.{least-closed}
+use Rattle.paper_rules.specs.Order.Leastness.{impossible-contradiction}
+use Rattle.paper_rules.specs.Paper.Closed.{Least, Contradiction}
+use Rattle.paper_rules.specs.Paper.Entries.{Entries, Admissible, shown}
 use Rattle.paper_board.specs.Paper.Limits.{BooksWithin, emptyBoard}
-use Rattle.paper_board.specs.Paper.Rules.{Rules}
-use Rattle.paper_board.specs.Paper.Schedules.{Placing, Schedule}
+use Rattle.paper_rules.specs.Paper.Rules.{Rules}
+use Rattle.paper_rules.specs.Paper.Schedules.{Placing, Schedule}
 use Rattle.paper_board.specs.Paper.View.{View, Live, Valid, Arc, view}
-use Rattle.paper_board.specs.Schedule.Boards.{least-keeps, contradiction-unscheduled}
+use Rattle.paper_rules.specs.Schedule.Boards.{least-keeps, contradiction-unscheduled}
 use Rattle.paper_closure.specs.Check.{passes}
 use Rattle.paper_closure.specs.Checked.{passes-closed, passes-least, obeys-passes, empty-passes}
 use Rattle.paper_entries.specs.Answered.{answered-impossible}
@@ -30,7 +30,7 @@ use Rattle.paper_entries.specs.Orderless.{least-orderless}
 use Rattle.paper_entries.specs.Paper.Answers.{no-number, replyOf}
 use Rattle.paper_entries.specs.Paper.Enter.{enter}
 use Rattle.paper_entries.specs.Paper.Entry.{Entry, number, entries}
-use Rattle.paper_entries.specs.Paper.Sequence.{Call}
+use Rattle.paper_entries.specs.Paper.Sequence.{Call, finalBoard}
 use Rattle.paper_entries.specs.Played.{Held, admissible-snoc, each-held}
 use Rattle.paper_entries.specs.Stepped.{step, outcome, reached-least}
 use Rattle.paper_entries.specs.Tallied.{tallied}
@@ -39,7 +39,7 @@ use Rattle.paper_plans.specs.Paper.Answers.{plan-none, planReplyOf}
 use Rattle.paper_plans.specs.Paper.Exact.{IsBudget, taken, triesTaken, ending}
 use Rattle.paper_plans.specs.Paper.Planner.{validJobs, plan}
 use Rattle.paper_plans.specs.Paper.Tries.{Outcome, found, none, tries}
-use Rattle.paper_demands.specs.Demands.{InOrder, PlanFound, PlanEnds, finalBoard, Demand3}
+use Rattle.paper_demands.specs.Demands.{InOrder, PlanFound, PlanEnds, Demand3}
 use Rattle.paper_demands.specs.Held.{held-empty, held}
 
 -- R1 asks that A and C differ; an arc back to A would make A invalid (R2)

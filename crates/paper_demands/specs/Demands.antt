@@ -11,9 +11,9 @@ use Rattle.paper_board.specs.declared.Refusal.{Refusal}
 use Rattle.paper_board.specs.Paper.Refusals.{numberOf}
 use Rattle.paper_board.specs.Paper.View.{Live, Valid, Arc, view}
 use Rattle.paper_board.specs.Paper.Limits.{tallyLimit, BooksWithin, emptyBoard}
-use Rattle.paper_board.specs.Paper.Entries.{Entries, shown}
-use Rattle.paper_board.specs.Paper.Closed.{Closed, LeastClosed, Contradiction}
-use Rattle.paper_board.specs.Paper.Schedules.{Placing, Schedule, Keeps}
+use Rattle.paper_rules.specs.Paper.Entries.{Entries, shown}
+use Rattle.paper_rules.specs.Paper.Closed.{Closed, LeastClosed, Contradiction}
+use Rattle.paper_rules.specs.Paper.Schedules.{Placing, Schedule, Keeps}
 use Rattle.paper_board.specs.Paper.Equality.{Same}
 use Rattle.paper_entries.specs.Paper.Entry.{Entry, number, entries, SameEntries, withEntry}
 use Rattle.paper_entries.specs.Paper.Gate.{checks, gate}
@@ -21,14 +21,14 @@ use Rattle.paper_entries.specs.Paper.Enter.{acceptance, counted, enter}
 use Rattle.paper_entries.specs.Paper.Answers.{no-number, replyOf, rowReplyOf, pairReplyOf}
 use Rattle.paper_entries.specs.Paper.Exact.{Outcome}
 use Rattle.paper_entries.specs.Paper.Looking as Looking
-use Rattle.paper_entries.specs.Paper.Sequence.{Call, outcome, after, accepted, impossibles, Each}
+use Rattle.paper_entries.specs.Paper.Sequence.{Call, outcome, finalBoard, acceptedBy, impossibles, Each}
 use Rattle.paper_plans.specs.Paper.Answers.{plan-found, plan-none, plan-spent, planReplyOf}
 use Rattle.paper_plans.specs.Paper.Exact.{IsBudget, triesTaken, ending}
 use Rattle.paper_plans.specs.Paper.Tries as Tries
 use Rattle.paper_plans.specs.Paper.Tries.{planOf, tries}
 use Rattle.paper_plans.specs.Paper.Planner as Planner
 use Rattle.paper_plans.specs.Paper.Planner.{validJobs}
-use Rattle.paper_demands.specs.Paper.Requests.{Request, entry, Sort, sortOf, refusalsOf, checksOf, refusal, boardAfter, Met}
+use Rattle.paper_requests.specs.Paper.Requests.{Request, entry, Sort, sortOf, refusalsOf, checksOf, refusal, boardAfter, Met}
 use Rattle.paper_demands.specs.Paper.Views.{RowShows, PairShows}
 
 -- what check 0 asks of a board: its limits kept and nothing kept twice that doesn't agree (`Within`, `BooksWithin`), and closed "over
@@ -87,14 +87,6 @@ pub record PlanEnds (es : Entries) (b : Board) (z : ℤ) : Type 0 where
       → (planReplyOf (Planner.plan b z) ≡ plan-none (triesTaken (view b))) ↔ ((p : Placing) → Schedule es p → ⊥)
   -- "and otherwise gives the plan of those tries, which is one of their schedules"
   pub found : triesTaken (view b) ≤ number z → (planReplyOf (Planner.plan b z) ≡ plan-none (triesTaken (view b)) → ⊥) → PlanFound es b z
-
--- the board after the calls, from an empty board with these books
-abbrev pub finalBoard : Books → List Call → Board
-finalBoard books cs = after (emptyBoard books) cs
-
--- what the calls accepted, in order
-abbrev pub acceptedBy : Books → List Call → List Entry
-acceptedBy books cs = accepted (emptyBoard books) cs
 
 -- "For every sequence of additions, arcs, marks and cuts, refused ones included, from an empty board", of any length, in either
 -- manner and with any numbers: one claim over the whole sequence.

@@ -6,11 +6,10 @@ use Rattle.paper_board.specs.declared.Books.{Books}
 use Rattle.paper_board.specs.Paper.View.{view}
 use Rattle.paper_board.specs.Paper.Facts.{Fact}
 use Rattle.paper_board.specs.Paper.Limits.{BooksWithin, emptyBoard}
-use Rattle.paper_board.specs.Tests.Empty.{within-empty, empty-obeys, empty-below}
+use Rattle.paper_rules.specs.Order.Empty.{within-empty, empty-obeys, empty-below}
 use Rattle.paper_entries.specs.Paper.Entry.{additions, Stated}
-use Rattle.paper_entries.specs.Paper.Sequence.{Call}
+use Rattle.paper_entries.specs.Paper.Sequence.{Call, finalBoard, acceptedBy}
 use Rattle.paper_entries.specs.Played.{Held, played}
-use Rattle.paper_demands.specs.Demands.{finalBoard, acceptedBy}
 
 nothing-stated : (f : Fact) → Stated [] f → ⊥
 nothing-stated f s = List·Memᴰ·not-nil (s .made)

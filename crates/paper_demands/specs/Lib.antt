@@ -1,11 +1,7 @@
 -- What the board promises: the customer's demands, and that they hold.
 pub mod Paper
 pub mod Demands
-pub mod SampleEntries
-pub mod Samples
 -- demand 1
-pub mod RefusalLaws
-pub mod Witnesses
 pub mod Demand1Holds
 -- demand 2
 pub mod Held

@@ -14,7 +14,7 @@ use Rattle.ground_arithmetic.specs.Linear.{whole, plus, minus, eqZ, eqZ-true}
 use Rattle.paper_board.specs.declared.Board.{Board}
 use Rattle.paper_board.specs.Paper.Tests.{live}
 use Rattle.paper_board.specs.Paper.View.{View, view, arcOf}
-use Rattle.paper_board.specs.Paper.Rules.{E, D}
+use Rattle.paper_rules.specs.Paper.Rules.{E, D}
 use Rattle.paper_board.specs.Tests.Live.{live-yes, live-show}
 use Rattle.paper_closure.specs.Check.{passes}
 use Rattle.paper_closure.specs.Checked.{passes-within}

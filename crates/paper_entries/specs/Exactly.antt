@@ -12,8 +12,8 @@ use Rattle.paper_board.specs.declared.Refusal.{Refusal}
 use Rattle.paper_board.specs.declared.Refusal.the-variants as Refused
 use Rattle.paper_board.specs.Paper.View.{view}
 use Rattle.paper_board.specs.Paper.Refusals.{numberOf}
-use Rattle.paper_board.specs.Paper.Entries.{Entries, shown}
-use Rattle.paper_board.specs.Paper.Closed.{Contradiction}
+use Rattle.paper_rules.specs.Paper.Entries.{Entries, shown}
+use Rattle.paper_rules.specs.Paper.Closed.{Contradiction}
 use Rattle.paper_closure.specs.Check.{passes}
 use Rattle.paper_entries.specs.declared.Answer.the-variants as Answers
 use Rattle.paper_entries.specs.declared.Entered.{Entered}

@@ -8,10 +8,10 @@ use Rattle.paper_board.specs.Paper.Refusals.{numberOf}
 use Rattle.paper_board.specs.Paper.View.{view}
 use Rattle.paper_board.specs.Paper.Facts.{Fact, Known}
 use Rattle.paper_board.specs.Paper.Limits.{Within}
-use Rattle.paper_board.specs.Paper.Entries.{Admissible, Drawn, drawn, shown}
-use Rattle.paper_board.specs.Paper.Schedules.{Placing, Schedule, Keeps}
-use Rattle.paper_board.specs.Inference.LeastClosed.{closed-least}
-use Rattle.paper_board.specs.Schedule.Boards.{least-keeps, contradiction-unscheduled}
+use Rattle.paper_rules.specs.Paper.Entries.{Admissible, Drawn, drawn, shown}
+use Rattle.paper_rules.specs.Paper.Schedules.{Placing, Schedule, Keeps}
+use Rattle.paper_rules.specs.Inference.LeastClosed.{closed-least}
+use Rattle.paper_rules.specs.Schedule.Boards.{least-keeps, contradiction-unscheduled}
 use Rattle.paper_closure.specs.Check.{passes}
 use Rattle.paper_closure.specs.Checked.{passes-within}
 use Rattle.paper_entries.specs.Paper.Answers.{no-number, replyOf}

@@ -4,8 +4,8 @@ use mathlib.Core.Bool.{true}
 use mathlib.Core.List.{List, [], _∷_}
 use Rattle.paper_board.specs.declared.Board.{Board}
 use Rattle.paper_board.specs.Paper.View.{view}
-use Rattle.paper_board.specs.Paper.Entries.{shown, _⊑_}
-use Rattle.paper_board.specs.Order.Laws.{⊑-trans}
+use Rattle.paper_rules.specs.Paper.Entries.{shown, _⊑_}
+use Rattle.paper_rules.specs.Order.Laws.{⊑-trans}
 use Rattle.paper_closure.specs.Check.{passes}
 use Rattle.paper_closure.specs.Checked.{obeys-passes}
 use Rattle.paper_entries.specs.declared.Entered.{Entered}

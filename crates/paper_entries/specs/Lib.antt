@@ -21,5 +21,3 @@ pub mod Exactly
 pub mod Unaltered
 pub mod HandedIn
 pub mod Boundaries
-
--- what the proofs of the code stand on

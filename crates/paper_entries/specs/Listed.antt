@@ -14,7 +14,7 @@ use borrow.Author.Tests.{eq-eqb, ne-eqb}
 use Rattle.ground_arithmetic.specs.Bools.{clash}
 use Rattle.paper_board.specs.Paper.View.{Row, View}
 use Rattle.paper_board.specs.Paper.Facts.{Fact}
-use Rattle.paper_board.specs.Paper.Entries.{Entries, Shown, AtLeast}
+use Rattle.paper_rules.specs.Paper.Entries.{Entries, Shown, AtLeast}
 use Rattle.paper_board.specs.Paper.Limits.{zeroRow}
 use Rattle.paper_entries.specs.Paper.Entry.{Statement, Entry, addition, other, addedRow, stated, additions, Stated, entries, SameEntries, withEntry}
 

@@ -10,9 +10,9 @@ use lib.Dec.{eqb}
 use borrow.Author.Tests.{eq-eqb, ne-eqb}
 use Rattle.paper_board.specs.Paper.View.{Row, View}
 use Rattle.paper_board.specs.Paper.Facts.{Fact, Holds}
-use Rattle.paper_board.specs.Paper.Entries.{Entries, Shown, AtLeast, _⊑_}
-use Rattle.paper_board.specs.Update.Extension.{HasRow}
-use Rattle.paper_board.specs.Order.Laws.{shown-trans, holds-up, below-up}
+use Rattle.paper_rules.specs.Paper.Entries.{Entries, Shown, AtLeast, _⊑_}
+use Rattle.paper_rules.specs.Update.Extension.{HasRow}
+use Rattle.paper_rules.specs.Order.Laws.{shown-trans, holds-up, below-up}
 use Rattle.paper_entries.specs.Paper.Entry.{Entry, addition, other, addedRow, stated, addRow, stating, withEntry}
 
 -- facts that hold one and all

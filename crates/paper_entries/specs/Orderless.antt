@@ -3,10 +3,10 @@ use mathlib.Core.Path.{_∙_}
 use mathlib.Core.List.{List}
 use Rattle.paper_board.specs.declared.Board.{Board}
 use Rattle.paper_board.specs.Paper.View.{view}
-use Rattle.paper_board.specs.Paper.Entries.{Entries}
-use Rattle.paper_board.specs.Paper.Closed.{Closed, Least}
+use Rattle.paper_rules.specs.Paper.Entries.{Entries}
+use Rattle.paper_rules.specs.Paper.Closed.{Closed, Least}
 use Rattle.paper_board.specs.Paper.Equality.{Same}
-use Rattle.paper_board.specs.Order.Unique.{least-unique}
+use Rattle.paper_rules.specs.Order.Unique.{least-unique}
 use Rattle.paper_entries.specs.Paper.Entry.{Entry, entries, SameEntries}
 use Rattle.paper_entries.specs.Listed.{Agree, agree-sym, agreed, same-agree}
 

@@ -4,7 +4,7 @@ use mathlib.Core.List.{List, [], _∷_, _++_, append-assoc, append-nil}
 use mathlib.Core.Option.{none}
 use Prim.Native.Nat.{ℕ}
 use Rattle.paper_board.specs.declared.Board.{Board}
-use Rattle.paper_board.specs.Paper.Entries.{Admissible}
+use Rattle.paper_rules.specs.Paper.Entries.{Admissible}
 use Rattle.paper_entries.specs.declared.Entered.{Entered}
 use Rattle.paper_entries.specs.Paper.Entry.{Entry, addition, other, entries, withEntry}
 use Rattle.paper_entries.specs.Paper.Gate.{checks, gate}

@@ -5,14 +5,14 @@ use mathlib.Core.List.{List, [], _∷_, List·Memᴰ·head, List·Memᴰ·tail, 
 use Rattle.paper_board.specs.declared.Board.{Board}
 use Rattle.paper_board.specs.Paper.View.{View, view}
 use Rattle.paper_board.specs.Paper.Facts.{Fact, Holds, Known}
-use Rattle.paper_board.specs.Paper.Entries.{shown}
+use Rattle.paper_rules.specs.Paper.Entries.{shown}
 use Rattle.paper_board.specs.Paper.Limits.{Within}
-use Rattle.paper_board.specs.Order.Laws.{holds-up}
-use Rattle.paper_board.specs.Update.Extension.{above-self, Extends}
-use Rattle.paper_board.specs.Update.Compose.{extends-then}
-use Rattle.paper_board.specs.Update.Updates.{update}
-use Rattle.paper_board.specs.Update.Updated.{updated}
-use Rattle.paper_board.specs.Update.Appended.{appended}
+use Rattle.paper_rules.specs.Order.Laws.{holds-up}
+use Rattle.paper_rules.specs.Update.Extension.{above-self, Extends}
+use Rattle.paper_rules.specs.Update.Compose.{extends-then}
+use Rattle.paper_rules.specs.Update.Updates.{update}
+use Rattle.paper_rules.specs.Update.Updated.{updated}
+use Rattle.paper_rules.specs.Update.Appended.{appended}
 use Rattle.paper_entries.specs.Paper.Entry.{Entry, addition, other, addedRow, stated, withEntry}
 use Rattle.paper_entries.specs.Made.{HoldAll, ShowsEntry}
 use Rattle.paper_entries.specs.Allowed.{KnownAll, Allowed}

@@ -2,11 +2,11 @@
 use mathlib.Core.Option.{Option}
 use Rattle.paper_board.specs.declared.Board.{Board}
 use Rattle.paper_board.specs.Paper.View.{View, view}
-use Rattle.paper_board.specs.Inference.Infers.{Obeys}
-use Rattle.paper_board.specs.Paper.Entries.{shown}
+use Rattle.paper_rules.specs.Inference.Infers.{Obeys}
+use Rattle.paper_rules.specs.Paper.Entries.{shown}
 use Rattle.paper_board.specs.Paper.Limits.{Within}
-use Rattle.paper_board.specs.Update.Extension.{Extension, Extends}
-use Rattle.paper_board.specs.Update.Compose.{extends-then}
+use Rattle.paper_rules.specs.Update.Extension.{Extension, Extends}
+use Rattle.paper_rules.specs.Update.Compose.{extends-then}
 use Rattle.paper_closure.specs.Closes.{closure-closes}
 use Rattle.paper_closure.specs.Closing.{closure}
 use Rattle.paper_entries.specs.Paper.Entry.{Entry, withEntry}

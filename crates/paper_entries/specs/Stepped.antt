@@ -6,12 +6,12 @@ use Rattle.paper_board.specs.declared.Board.{Board}
 use Rattle.paper_board.specs.declared.Refusal.{Refusal}
 use Rattle.paper_board.specs.declared.Refusal.the-variants as Refused
 use Rattle.paper_board.specs.Paper.View.{view}
-use Rattle.paper_board.specs.Paper.Entries.{Entries, shown}
-use Rattle.paper_board.specs.Paper.Closed.{Least}
-use Rattle.paper_board.specs.Order.Leastness.{Impossible, below-least, below-shown, impossible-contradiction}
-use Rattle.paper_board.specs.Update.Extension.{above-self}
-use Rattle.paper_board.specs.Inference.Agrees.{obeys-rules}
-use Rattle.paper_board.specs.Inference.LeastClosed.{least-closed}
+use Rattle.paper_rules.specs.Paper.Entries.{Entries, shown}
+use Rattle.paper_rules.specs.Paper.Closed.{Least}
+use Rattle.paper_rules.specs.Order.Leastness.{Impossible, below-least, below-shown, impossible-contradiction}
+use Rattle.paper_rules.specs.Update.Extension.{above-self}
+use Rattle.paper_rules.specs.Inference.Agrees.{obeys-rules}
+use Rattle.paper_rules.specs.Inference.LeastClosed.{least-closed}
 use Rattle.paper_closure.specs.Check.{passes}
 use Rattle.paper_closure.specs.Checked.{passes-within, passes-books, passes-obeys, obeys-passes}
 use Rattle.paper_entries.specs.declared.Entered.{Entered}

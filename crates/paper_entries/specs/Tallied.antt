@@ -9,7 +9,7 @@ use Rattle.paper_board.specs.declared.Board.{Board}
 use Rattle.paper_board.specs.Paper.Refusals.{numberOf}
 use Rattle.paper_board.specs.Paper.Limits.{tallyLimit}
 use Rattle.paper_board.specs.Paper.View.{view}
-use Rattle.paper_board.specs.Paper.Entries.{shown}
+use Rattle.paper_rules.specs.Paper.Entries.{shown}
 use Rattle.paper_closure.specs.Check.{passes}
 use Rattle.paper_closure.specs.Checked.{passes-books}
 use Rattle.paper_entries.specs.declared.Entered.{Entered}

@@ -10,11 +10,11 @@ use Rattle.ground_arithmetic.specs.Bools.{clash}
 use Rattle.paper_board.specs.declared.Board.{Board}
 use Rattle.paper_board.specs.Paper.View.{View, Invalid, Side, view}
 use Rattle.paper_board.specs.Paper.Facts.{is-arc, is-bound, Holds}
-use Rattle.paper_board.specs.Paper.Entries.{Entries, shown}
-use Rattle.paper_board.specs.Paper.Closed.{Least}
-use Rattle.paper_board.specs.Inference.LeastClosed.{closed-least}
-use Rattle.paper_board.specs.Order.Laws.{holds-up}
-use Rattle.paper_board.specs.Order.Unique.{least-unique, equal-boards}
+use Rattle.paper_rules.specs.Paper.Entries.{Entries, shown}
+use Rattle.paper_rules.specs.Paper.Closed.{Least}
+use Rattle.paper_rules.specs.Inference.LeastClosed.{closed-least}
+use Rattle.paper_rules.specs.Order.Laws.{holds-up}
+use Rattle.paper_rules.specs.Order.Unique.{least-unique, equal-boards}
 use Rattle.paper_closure.specs.Check.{passes}
 use Rattle.paper_closure.specs.Checked.{passes-within, passes-least}
 use Rattle.paper_entries.specs.declared.Answer.the-variants as Answers

@@ -16,9 +16,9 @@ use Rattle.paper_board.specs.Paper.Limits.{emptyBoard}
 use Rattle.paper_board.specs.Paper.Parts.{emptyBooks}
 use Rattle.paper_board.specs.Paper.Tests.{implies, between, live, valid}
 use Rattle.paper_board.specs.Tests.Limits.{all, isZero, fits, isZeroRow, full, shape, holdsJob, holdsNothing, joinable, agrees, withinLimits}
-use Rattle.paper_board.specs.Paper.Schedules.{Placing}
+use Rattle.paper_rules.specs.Paper.Schedules.{Placing}
 use Rattle.paper_board.specs.Paper.View.{rowOf}
-use Rattle.paper_board.specs.Update.Updates.{exclude, tighten, update, _andThen_}
+use Rattle.paper_rules.specs.Update.Updates.{exclude, tighten, update, _andThen_}
 use Rattle.paper_closure.specs.Find.{guard, _orElse_, first, any, beyond, tooLate, joined, pushers, pushed, push, next, find}
 use Rattle.paper_closure.specs.Closing.{close, closure}
 use Rattle.paper_closure.specs.Check.{nothingLeft, passes}
@@ -32,8 +32,8 @@ use Rattle.paper_plans.specs.Paper.Tries as Tries
 use Rattle.paper_plans.specs.Paper.Tries.{add, startAfter, from, search}
 use Rattle.paper_plans.specs.Paper.Planner.{placedWord, startList, plan}
 use Rattle.paper_plans.specs.Paper.Answers.{PlanReply, plan-found, plan-none, plan-spent, no-plan, planReplyOf}
-use Rattle.paper_demands.specs.Paper.Requests.{entryRefusal, planRefusal}
-use Rattle.paper_demands.specs.SampleEntries.{job, undecided, arrow, marked, cutTo}
+use Rattle.paper_requests.specs.Paper.Requests.{entryRefusal, planRefusal}
+use Rattle.paper_requests.specs.SampleEntries.{job, undecided, arrow, marked, cutTo}
 
 -- A line of an example: an entry that is accepted, or refused with a number; or something said of the board after it.
 pub data Line : Type 0 where

@@ -13,11 +13,11 @@ use Rattle.ground_arithmetic.specs.Bools.{is-true, refuted, by-test}
 use Rattle.ground_arithmetic.specs.Linear.{whole, plus}
 use Rattle.ground_arithmetic.specs.Sum.{least-member}
 use Rattle.paper_board.specs.Paper.View.{View}
-use Rattle.paper_board.specs.Paper.Rules.{E, L}
+use Rattle.paper_rules.specs.Paper.Rules.{E, L}
 use Rattle.paper_board.specs.Paper.Limits.{Limited}
-use Rattle.paper_board.specs.Paper.Entries.{drawn}
+use Rattle.paper_rules.specs.Paper.Entries.{drawn}
 use Rattle.paper_board.specs.Paper.Facts.{is-arc}
-use Rattle.paper_board.specs.Paper.Schedules.{Placing, Placed, Keeps}
+use Rattle.paper_rules.specs.Paper.Schedules.{Placing, Placed, Keeps}
 use Rattle.paper_board.specs.Paper.Tests.{valid}
 use Rattle.paper_plans.specs.Paper.Lists.{among}
 use Rattle.paper_plans.specs.Paper.Tries.{none, startAfter, inTime, ready, unplaced, search, tries}

@@ -12,12 +12,12 @@ use borrow.Author.Tests.{leb-false, le-leb, lt-leb}
 use Rattle.ground_arithmetic.specs.Bools.{clash}
 use Rattle.paper_board.specs.declared.Board.{Board}
 use Rattle.paper_board.specs.Paper.View.{View, view}
-use Rattle.paper_board.specs.Paper.Entries.{Entries, Admissible}
+use Rattle.paper_rules.specs.Paper.Entries.{Entries, Admissible}
 use Rattle.paper_board.specs.Paper.Limits.{Limited, jobLimit}
-use Rattle.paper_board.specs.Paper.Closed.{Least}
-use Rattle.paper_board.specs.Paper.Schedules.{Placing, Schedule}
-use Rattle.paper_board.specs.Schedule.Boards.{least-keeps}
-use Rattle.paper_board.specs.Schedule.Keeps.{keeps-schedule}
+use Rattle.paper_rules.specs.Paper.Closed.{Least}
+use Rattle.paper_rules.specs.Paper.Schedules.{Placing, Schedule}
+use Rattle.paper_rules.specs.Schedule.Boards.{least-keeps}
+use Rattle.paper_rules.specs.Schedule.Keeps.{keeps-schedule}
 use Rattle.paper_board.specs.Tests.LimitsDecided.{decides-between}
 use Rattle.paper_board.specs.Tests.Live.{valid-yes}
 use Rattle.paper_closure.specs.Check.{passes}

@@ -14,11 +14,11 @@ use Rattle.ground_arithmetic.specs.Bools.{is-false, refuted, same-tests}
 use Rattle.ground_arithmetic.specs.Linear.{whole, plus}
 use Rattle.ground_arithmetic.specs.Time.{greater-left, greater-right}
 use Rattle.paper_board.specs.Paper.View.{View, Valid, Arc}
-use Rattle.paper_board.specs.Paper.Rules.{E, D, L}
+use Rattle.paper_rules.specs.Paper.Rules.{E, D, L}
 use Rattle.paper_board.specs.Paper.Limits.{Limited}
-use Rattle.paper_board.specs.Paper.Entries.{Drawn, drawn, shown}
+use Rattle.paper_rules.specs.Paper.Entries.{Drawn, drawn, shown}
 use Rattle.paper_board.specs.Paper.Facts.{Fact}
-use Rattle.paper_board.specs.Paper.Schedules.{Respects, Keeps}
+use Rattle.paper_rules.specs.Paper.Schedules.{Respects, Keeps}
 use Rattle.paper_board.specs.Paper.Tests.{valid}
 use Rattle.paper_board.specs.Tests.Live.{valid-yes, valid-show}
 use Rattle.paper_plans.specs.Paper.Lists.{among}

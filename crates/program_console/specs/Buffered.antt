@@ -4,13 +4,13 @@ use mathlib.Core.List.{List, [], _∷_, _++_}
 use Prim.Native.Nat.{ℕ}
 use native.Mathlib.Omega.{arith}
 use lib.ListN.{length, take}
-use Rattle.text_numerals.specs.Rest.{rest, rest-drop}
+use Rattle.text_decimals.specs.Rest.{rest, rest-drop}
 use Rattle.paper_board.specs.declared.Board.{Board}
-use Rattle.text_answers.specs.declared.Piece.{Piece}
+use Rattle.text_pieces.specs.declared.Piece.{Piece}
 use Rattle.text_forms.specs.Paper.Lines.{linesOf}
 use Rattle.text_answers.specs.Paper.Text.{serve, answer}
-use Rattle.text_answers.specs.Serving.{Answers}
-use Rattle.text_answers.specs.Pieces.{Pieces, first, further, Whole, pieces-whole}
+use Rattle.text_pieces.specs.Serving.{Answers}
+use Rattle.text_pieces.specs.Pieces.{Pieces, first, further, Whole, pieces-whole}
 
 -- the buffer holds the piece w of a text, and board b and the text t remain
 pub record Buffered (text w : List ℕ) (b : Board) (t : List ℕ) : Type 0 where

@@ -6,10 +6,10 @@ ghost use mathlib.Core.Path.{_≡_};
 ghost use mathlib.Core.Bool.{true};
 ghost use Prim.Native.Nat.{_≤_};
 ghost use lib.ListN.{length};
-ghost use Rattle.text_answers.specs.Pieces.{Whole};
+ghost use Rattle.text_pieces.specs.Pieces.{Whole};
 
 // One byte more than a text may have, so that a longer one shows.
-const ROOM: usize = text_answers::LOAD + 1;
+const ROOM: usize = text_pieces::LOAD + 1;
 
 // How many bytes were read, and whether no read failed.
 struct Input {
@@ -68,7 +68,7 @@ pub fn answer(bytes: &[u8]) -> Served
     ensures { λ r. ⌜ (r .complete ≡ true → Whole (now (bytes .entry)) (r .board)) ⌝ }
 {
     let mut out = io::large_buffer();
-    let first = text_answers::start(bytes, &mut out);
+    let first = text_pieces::start(bytes, &mut out);
     let mut board = first.board;
     let mut written = first.written;
     let read = first.read;
@@ -80,7 +80,7 @@ pub fn answer(bytes: &[u8]) -> Served
                 board,
             };
         }
-        let piece = text_answers::next(board, rest, &mut out);
+        let piece = text_pieces::next(board, rest, &mut out);
         board = piece.board;
         written = piece.written;
         let read = piece.read;

@@ -4,9 +4,9 @@ use paper_entries::Answer;
 use paper_entries::PairAnswer;
 use paper_entries::RowAnswer;
 use paper_plans::Planned;
+use text_plans::put_plan;
 use text_replies::put_answer;
 use text_replies::put_pair;
-use text_replies::put_plan;
 use text_replies::put_row;
 use text_replies::put_tally;
 

@@ -6,8 +6,8 @@ use lib.IntN.{ℤ}
 use mir.Syntax.{w32}
 use mir.Val.{SFits}
 use mir.ValLaws.{toZ-ofZ}
-use Rattle.text_numerals.specs.Magnitude.{held}
-use Rattle.text_numerals.specs.Written.{Written}
+use Rattle.text_decimals.specs.Magnitude.{held}
+use Rattle.text_decimals.specs.Written.{Written}
 use Rattle.paper_board.specs.declared.Board.{Board}
 use Rattle.paper_board.specs.declared.Refusal.the-variants as Refused
 use Rattle.paper_board.specs.Paper.Refusals.{numberOf}

@@ -14,7 +14,7 @@ use Rattle.paper_board.specs.declared.Board.{Board}
 use Rattle.paper_board.specs.declared.Refusal.{Refusal}
 use Rattle.paper_board.specs.Paper.Limits.{emptyBoard}
 use Rattle.paper_board.specs.Paper.Parts.{emptyBooks}
-use Rattle.paper_board.specs.Tests.Empty.{within-emptyBooks}
+use Rattle.paper_rules.specs.Order.Empty.{within-emptyBooks}
 use Rattle.paper_board.specs.Paper.Refusals.{numberOf}
 use Rattle.paper_board.specs.Paper.View.{View, view}
 use Rattle.paper_board.specs.Paper.Tests.{live}

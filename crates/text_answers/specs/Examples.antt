@@ -1,13 +1,13 @@
 -- The paper's whole case, and lines that are no form, from bytes to bytes: each is computed through the definitions.
 use mathlib.Core.Path.{_≡_, refl}
 use Prim.Native.String.{String}
-use Rattle.text_numerals.specs.Bytes.{bytes}
+use Rattle.text_decimals.specs.Bytes.{bytes}
 use Rattle.ground_sets.specs.Bit.{bit, with, without, union, difference, singleton}
 use Rattle.ground_arithmetic.specs.Linear.{eqZ}
 use Rattle.ground_arithmetic.specs.Sum.{sum, count}
 use Rattle.paper_board.specs.Paper.Tests.{implies, between, live, valid}
 use Rattle.paper_board.specs.Tests.Limits.{all, isZero, fits, isZeroRow, full, shape, holdsJob, holdsNothing, joinable, agrees, withinLimits}
-use Rattle.paper_board.specs.Update.Updates.{exclude, tighten, update, _andThen_}
+use Rattle.paper_rules.specs.Update.Updates.{exclude, tighten, update, _andThen_}
 use Rattle.paper_closure.specs.Find.{guard, _orElse_, first, any, beyond, tooLate, joined, pushers, pushed, push, next, find}
 use Rattle.paper_closure.specs.Closing.{close, closure}
 use Rattle.paper_closure.specs.Check.{nothingLeft, passes}
@@ -18,7 +18,7 @@ use Rattle.paper_plans.specs.Paper.Lists.{range, keep, every, among}
 use Rattle.paper_plans.specs.Paper.Tries as Tries
 use Rattle.paper_plans.specs.Paper.Tries.{add, startAfter, from, search}
 use Rattle.paper_plans.specs.Paper.Planner.{placedWord, startList, plan}
-use Rattle.text_numerals.specs.Decimal.{natural}
+use Rattle.text_decimals.specs.Decimal.{natural}
 use Rattle.text_numerals.specs.Numerals.{naturalAt, numberAt}
 use Rattle.text_formats.specs.Format.{scan, filled}
 use Rattle.text_forms.specs.Paper.Forms.{firstOf}

@@ -5,9 +5,5 @@ pub mod Examples
 pub mod Checked
 pub mod NeverZero
 pub mod Calls
--- what the code goes by: a line at a time, and a piece at a time
+-- what the code goes by: a line at a time
 pub mod Carried
-pub mod Serving
-pub mod Pieces
-pub mod Loop
-pub mod Load

@@ -6,8 +6,8 @@ use Prim.Native.Char.{code}
 use Prim.Native.Nat.{ℕ, _<_}
 use native.Mathlib.Omega.{arith}
 use lib.ListN.{getD, drop}
-use Rattle.text_numerals.specs.Bytes.{bytes}
-use Rattle.text_numerals.specs.Decimal.{natural}
+use Rattle.text_decimals.specs.Bytes.{bytes}
+use Rattle.text_decimals.specs.Decimal.{natural}
 use Rattle.text_numerals.specs.DecimalLaws.{natural-digits, natural-value}
 use Rattle.text_numerals.specs.Numerals.{digits, value}
 use Rattle.text_formats.specs.Format.{filled}

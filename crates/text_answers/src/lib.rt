@@ -1,83 +1,61 @@
-// "The text": a text answered from bytes to bytes, a piece at a time.
-mod answer;
-
-use answer::answer;
+// The answer to a form, and the board after it.
+use call_enter::enter;
+use call_pairs::pair;
+use call_planner::plan;
+use call_rows::row;
 use paper_board::Board;
 use paper_board::Refusal;
-use text_forms::line::line_length;
-use text_forms::read;
-use text_replies::LONGEST;
+use paper_entries::Entered;
+use text_forms::Form;
+use text_plans::put_plan;
+use text_replies::put_answer;
+use text_replies::put_pair;
 use text_replies::put_refusal;
+use text_replies::put_row;
+use text_replies::put_tally;
 ghost use mathlib.Core.Path.{_≡_};
 ghost use mathlib.Core.Bool.{true};
-ghost use Prim.Native.Nat.{_≤_};
+ghost use Prim.Native.Nat.{_+_, _≤_};
 ghost use lib.ListN.{length};
+ghost use Rattle.text_decimals.specs.Written.{Written};
 ghost use Rattle.paper_closure.specs.Check.{passes};
 ghost use Rattle.text_replies.specs.Room.{longest};
-ghost use Rattle.text_forms.specs.Paper.Lines.{linesOf};
 ghost use Rattle.text_answers.specs.Paper.Text as paper;
-ghost use Rattle.text_answers.specs.Serving.{Answers};
 
-// The most bytes that a text may have.
-pub const LOAD: usize = 65536;
-
-// How far a text was answered: the board after it, how many of its bytes were read, and how many bytes of answers were written.
-pub struct Piece {
+// The board after a form, and where its answer ends in the buffer.
+pub struct Answered {
     pub board: Board,
-    pub read: usize,
-    pub written: usize,
+    pub end: usize,
 }
 
-// Answers as many lines as the buffer has room for, at least one. Each line is read from where the last one ended.
-pub fn next(board: Board, text: &[u8], out: &mut [u8]) -> Piece
-    requires { ⌜ (passes board ≡ true) × (longest ≤ length (now out)) ⌝ }
-    ensures { λ r. ⌜ Answers (paper.serve board (linesOf (now (text .entry)))) (now (text .entry)) (now (out .exit)) r ⌝ }
+fn entered(out: &mut [u8], at: usize, entered: Entered) -> Answered
+    requires { ⌜ at + longest ≤ length (now out) ⌝ }
+    ensures { λ r. ⌜ Written (now (out .entry)) at (now (out .exit)) (r .end) (paper.replyText (paper.entered entered .reply)) longest ⌝ }
+    ensures { λ r. ⌜ r .board ≡ paper.entered entered .board ⌝ }
 {
-    let mut board = board;
-    let mut rest = text;
-    let mut at = 0;
-    while 0 < rest.len() {
-        if out.len() - at < LONGEST {
-            return Piece {
-                board,
-                read: text.len() - rest.len(),
-                written: at,
-            };
-        }
-        let n = line_length(rest);
-        if n == rest.len() {
-            let end = put_refusal(out, at, Refusal::Form);
-            return Piece {
-                board,
-                read: text.len(),
-                written: end,
-            };
-        }
-        let answered = answer(board, read(&rest[0..n]), out, at);
-        board = answered.board;
-        at = answered.end;
-        let after = n + 1;
-        rest = &rest[after..];
-    }
-    Piece {
-        board,
-        read: text.len(),
-        written: at,
-    }
+    let answer = entered.answer;
+    let board = entered.board;
+    let end = put_answer(out, at, answer);
+    Answered { board, end }
 }
 
-// The first piece of a text, from an empty board.
-pub fn start(text: &[u8], out: &mut [u8]) -> Piece
-    requires { ⌜ longest ≤ length (now out) ⌝ }
-    ensures { λ r. ⌜ Answers (paper.answer (now (text .entry))) (now (text .entry)) (now (out .exit)) r ⌝ }
+fn looked(board: Board, end: usize) -> Answered
+    ensures { λ r. ⌜ (r .board ≡ board) × (r .end ≡ end) ⌝ }
 {
-    if LOAD < text.len() {
-        let end = put_refusal(out, 0, Refusal::Load);
-        return Piece {
-            board: Board::empty(),
-            read: text.len(),
-            written: end,
-        };
+    Answered { board, end }
+}
+
+pub fn answer(board: Board, form: Form, out: &mut [u8], at: usize) -> Answered
+    requires { ⌜ (passes board ≡ true) × (at + longest ≤ length (now out)) ⌝ }
+    ensures { λ r. ⌜ Written (now (out .entry)) at (now (out .exit)) (r .end) (paper.replyText (paper.carriedOut board form .reply)) longest ⌝ }
+    ensures { λ r. ⌜ r .board ≡ paper.carriedOut board form .board ⌝ }
+{
+    match form {
+        Form::Entry(entry) => entered(out, at, enter(board, entry)),
+        Form::Row { job } => looked(board, put_row(out, at, job, row(board, job))),
+        Form::Pair { a, b } => looked(board, put_pair(out, at, pair(board, a, b))),
+        Form::Plan { budget } => looked(board, put_plan(out, at, plan(board, budget))),
+        Form::Tally => looked(board, put_tally(out, at, board.books.tally)),
+        Form::Unknown => looked(board, put_refusal(out, at, Refusal::Form)),
     }
-    next(Board::empty(), text, out)
 }

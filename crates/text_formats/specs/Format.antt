@@ -8,9 +8,9 @@ use lib.ListN.{getD, drop}
 use mathlib.Core.Bool.{cond}
 use mathlib.Core.List.{List, [], _∷_, _++_}
 use mathlib.Core.Option.{Option, none, some}
-use Rattle.text_numerals.specs.Decimal.{natural, number}
+use Rattle.text_decimals.specs.Decimal.{natural, number}
 use Rattle.text_numerals.specs.Numerals.{numberAt}
-use Rattle.text_numerals.specs.declared.read.Numeral.the-variants.{Number, Nothing}
+use Rattle.text_numerals.specs.declared.Numeral.the-variants.{Number, Nothing}
 
 abbrev pub numberMark : ℕ
 numberMark = code "#"

@@ -5,8 +5,8 @@ use mathlib.Core.List.{List, [], _∷_}
 use mir.Syntax.{w32}
 use mir.Val.{SFits}
 use mir.ValLaws.{toZ-ofZ}
-use Rattle.text_numerals.specs.Magnitude.{held}
-use Rattle.text_numerals.specs.Written.{Written, weaken-written}
+use Rattle.text_decimals.specs.Magnitude.{held}
+use Rattle.text_decimals.specs.Written.{Written, weaken-written}
 use Rattle.text_formats.specs.Format.{filled}
 
 module _ {o p : List ℕ} {i j : ℕ} (f ns : List ℕ) where

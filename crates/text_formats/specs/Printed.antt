@@ -9,11 +9,11 @@ use mathlib.Core.List.{List, [], _∷_}
 use mathlib.Core.Path.{_≡_, refl}
 use mir.Syntax.{w32}
 use mir.ValLaws.{toZ-ofZ}
-use Rattle.text_numerals.specs.Decimal.{natural, number}
-use Rattle.text_numerals.specs.Magnitude.{held}
-use Rattle.text_numerals.specs.Written.{Written, nothing-written, append-written}
+use Rattle.text_decimals.specs.Decimal.{natural, number}
+use Rattle.text_decimals.specs.Magnitude.{held}
+use Rattle.text_decimals.specs.Written.{Written, nothing-written, append-written}
 use Rattle.text_formats.specs.Format.{filled, marks, naturalMark, numberMark, room}
-use Rattle.text_numerals.specs.Rest.{rest, rest-drop}
+use Rattle.text_decimals.specs.Rest.{rest, rest-drop}
 
 -- f is a byte longer than g, and takes so much more room, and so many more naturals and numbers
 pub record Takes (f g : List ℕ) (most naturals numbers : ℕ) : Type 0 where

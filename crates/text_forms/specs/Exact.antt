@@ -9,7 +9,7 @@ use mathlib.Core.List.{List, [], _∷_}
 use mathlib.Core.Option.{Option, none, some}
 use mathlib.Core.Path.{_≡_, refl, sym, ap, _∙_}
 use native.Mathlib.Omega.{arith}
-use Rattle.text_formats.specs.Exact.{scannable, AllShort, scanned-is-filled}
+use Rattle.text_scans.specs.Exact.{scannable, AllShort, scanned-is-filled}
 use Rattle.text_formats.specs.Format.{numberMark, filled, scan, marks}
 use Rattle.paper_entries.specs.declared.Entry.the-variants.{Addition, Arc, Mark, Cut}
 use Rattle.text_forms.specs.declared.Form.{Form}

@@ -1,7 +1,7 @@
 -- Lines that are forms, and lines that are none: "A number is an optional minus and 1 to 7 decimal digits, no leading zero, no -0."
 use lib.IntN.{pos, negsuc}
 use mathlib.Core.Path.{_≡_, refl}
-use Rattle.text_numerals.specs.Bytes.{bytes}
+use Rattle.text_decimals.specs.Bytes.{bytes}
 use Rattle.text_numerals.specs.Numerals.{naturalAt, numberAt}
 use Rattle.text_formats.specs.Format.{scan}
 use Rattle.paper_entries.specs.declared.Entry.the-variants.{Addition}

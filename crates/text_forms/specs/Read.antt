@@ -9,11 +9,11 @@ use mathlib.Core.Path.{_≡_, refl, ap}
 use native.Mathlib.Omega.{arith}
 use mir.Syntax.{w32}
 use mir.ValLaws.{toZ-ofZ}
-use Rattle.text_numerals.specs.Magnitude.{held}
+use Rattle.text_decimals.specs.Magnitude.{held}
 use Rattle.text_numerals.specs.Natural.{short-fits}
-use Rattle.text_formats.specs.Exact.{scannable, AllShort, scanned-is-filled}
+use Rattle.text_scans.specs.Exact.{scannable, AllShort, scanned-is-filled}
 use Rattle.text_formats.specs.Format.{numberMark, scan, marks}
-use Rattle.text_formats.specs.Scan.{places, placed}
+use Rattle.text_scans.specs.Scan.{places, placed}
 use Rattle.text_forms.specs.declared.Form.{Form}
 use Rattle.text_forms.specs.declared.table.Match.{Match}
 use Rattle.text_forms.specs.declared.Form.the-variants.{Unknown}

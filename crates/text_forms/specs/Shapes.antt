@@ -7,10 +7,10 @@ use mathlib.Core.Bool.{Bool, true, _&&_, and-eq-true-iff}
 use mathlib.Core.List.{List, [], _∷_}
 use mathlib.Core.Path.{_≡_, refl}
 use borrow.Author.Tests.{leb-true}
-use Rattle.text_formats.specs.Apart.{apart, apart-unread}
-use Rattle.text_formats.specs.Exact.{scannable, AllShort, filled-is-scanned}
+use Rattle.text_scans.specs.Apart.{apart, apart-unread}
+use Rattle.text_scans.specs.Exact.{scannable, AllShort, filled-is-scanned}
 use Rattle.text_formats.specs.Format.{numberMark, filled, marks}
-use Rattle.text_formats.specs.Scan.{places}
+use Rattle.text_scans.specs.Scan.{places}
 use Rattle.text_forms.specs.Paper.Forms.{Shape, said, firstOf}
 use Rattle.text_forms.specs.Table.{nothing}
 

@@ -6,9 +6,9 @@ use lib.ListN.{getD}
 use mathlib.Core.Bool.{Bool, true, false, _&&_}
 use mathlib.Core.List.{List, [], _∷_}
 use mathlib.Core.Option.{none, some}
-use Rattle.text_numerals.specs.Magnitude.{held}
+use Rattle.text_decimals.specs.Magnitude.{held}
 use Rattle.text_formats.specs.Format.{numberMark, scan, marks}
-use Rattle.text_formats.specs.Scan.{places, placed}
+use Rattle.text_scans.specs.Scan.{places, placed}
 use Rattle.text_forms.specs.declared.Form.{Form}
 use Rattle.text_forms.specs.declared.Form.the-variants.{Unknown}
 use Rattle.text_forms.specs.declared.table.Match.{Match}

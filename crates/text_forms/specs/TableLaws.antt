@@ -13,10 +13,10 @@ use native.Mathlib.Numerals.{add-one}
 use native.Mathlib.Omega.{arith}
 use borrow.Author.Tests.{leb-true}
 use Rattle.text_numerals.specs.Prefix.{prefix-within}
-use Rattle.text_numerals.specs.Rest.{rest, rest-drop}
-use Rattle.text_formats.specs.declared.scan.Scanned.{Scanned}
+use Rattle.text_decimals.specs.Rest.{rest, rest-drop}
+use Rattle.text_scans.specs.declared.Scanned.{Scanned}
 use Rattle.text_formats.specs.Format.{numberMark, scan, marks}
-use Rattle.text_formats.specs.Scan.{places, placed, scanned}
+use Rattle.text_scans.specs.Scan.{places, placed, scanned}
 use Rattle.text_forms.specs.declared.table.Match.{Match}
 use Rattle.text_forms.specs.LineLaws.{inLine, lineLength, no-lines, lines-ended, lines-unended}
 use Rattle.text_forms.specs.Paper.Lines.{ended, linesOf}

@@ -4,7 +4,7 @@ mod table;
 
 use paper_entries::Entry;
 use table::first;
-use text_formats::scan::PLACES;
+use text_scans::PLACES;
 ghost use mathlib.Core.Path.{_≡_};
 ghost use Rattle.text_forms.specs.Paper.Forms.{formOf};
 ghost use Rattle.text_forms.specs.Table.{madeAt};

@@ -1,7 +1,7 @@
 // A table of formats, one to a line: the first that a text is written by.
 use crate::line::line_length;
-use text_formats::scan::PLACES;
-use text_formats::scan::scan;
+use text_scans::PLACES;
+use text_scans::scan;
 ghost use mathlib.Core.Path.{_≡_};
 ghost use mathlib.Core.Bool.{true};
 ghost use Rattle.text_forms.specs.Paper.Lines.{linesOf};

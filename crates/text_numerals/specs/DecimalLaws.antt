@@ -9,9 +9,9 @@ use mathlib.Core.List.{List, [], _∷_, _++_, append-nil, append-assoc}
 use mathlib.Core.Path.{_≡_, refl, sym, ap, _∙_}
 use native.Mathlib.Omega.{arith}
 use borrow.Author.Tests.{ltb-true, ltb-false, le-leb, ne-eqb, eqb-true, eqb-false}
-use Rattle.text_numerals.specs.Bytes.{isDigit}
-use Rattle.text_numerals.specs.Decimal.{natural}
-use Rattle.text_numerals.specs.Digits.{natural-small, natural-more, natural-length}
+use Rattle.text_decimals.specs.Bytes.{isDigit}
+use Rattle.text_decimals.specs.Decimal.{natural}
+use Rattle.text_decimals.specs.Digits.{natural-small, natural-more, natural-length}
 use Rattle.text_numerals.specs.DigitsRead.{digits-ind, digit-range}
 use Rattle.text_numerals.specs.Natural.{natural-parts}
 use Rattle.text_numerals.specs.Numerals.{digits, valueAfter, value, isNatural}

@@ -7,7 +7,7 @@ use mathlib.Core.List.{List, [], _∷_}
 use mathlib.Core.Path.{_≡_, refl, ap}
 use native.Mathlib.Omega.{arith}
 use borrow.Author.Tests.{leb-true}
-use Rattle.text_numerals.specs.Bytes.{isDigit}
+use Rattle.text_decimals.specs.Bytes.{isDigit}
 use Rattle.text_numerals.specs.Numerals.{digits}
 
 abbrev pub startsWithDigit : List ℕ → Bool

@@ -8,16 +8,16 @@ use mathlib.Core.List.{List, [], _∷_, _++_, append-nil}
 use mathlib.Core.Path.{_≡_, refl, sym, ap, _∙_}
 use native.Mathlib.Omega.{arith}
 use borrow.Author.Tests.{eqb-true, ne-eqb}
-use Rattle.text_numerals.specs.Bytes.{minus}
-use Rattle.text_numerals.specs.Decimal.{natural, number}
+use Rattle.text_decimals.specs.Bytes.{minus}
+use Rattle.text_decimals.specs.Decimal.{natural, number}
 use Rattle.text_numerals.specs.DecimalLaws.{natural-digits, natural-value, natural-leads, written-is-natural, natural-is-written}
-use Rattle.text_numerals.specs.Bytes.{isDigit}
+use Rattle.text_decimals.specs.Bytes.{isDigit}
 use Rattle.text_numerals.specs.Prefix.{prefix-within}
 use Rattle.text_numerals.specs.DigitsRead.{startsWithDigit, no-digits, digits-are-first, digit-at}
 use Rattle.text_numerals.specs.Natural.{natural-short, nothing-is-no-number, NaturalRead, natural-found}
 use Rattle.text_numerals.specs.Numerals.{digits, naturalAt, negative, numberAt, Short}
-use Rattle.text_numerals.specs.declared.read.Numeral.{Numeral}
-use Rattle.text_numerals.specs.declared.read.Numeral.the-variants.{Number, Nothing}
+use Rattle.text_numerals.specs.declared.Numeral.{Numeral}
+use Rattle.text_numerals.specs.declared.Numeral.the-variants.{Number, Nothing}
 
 natural-then : (n : ℕ) (t : List ℕ) → startsWithDigit t ≡ false → digits (natural n ++ t) ≡ natural n
 natural-then n t e = natural-digits n t ∙ ap (λ l. natural n ++ l) (no-digits t e) ∙ append-nil (natural n)

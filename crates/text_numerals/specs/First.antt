@@ -6,9 +6,9 @@ use mathlib.Core.Bool.{cond}
 use mathlib.Core.List.{List, [], _∷_}
 use mathlib.Core.Path.{_≡_, refl}
 use native.Mathlib.Omega.{arith}
-use Rattle.text_numerals.specs.Bytes.{minus}
+use Rattle.text_decimals.specs.Bytes.{minus}
 use Rattle.text_numerals.specs.Numerals.{naturalAt, negative, numberAt}
-use Rattle.text_numerals.specs.declared.read.Numeral.the-variants.{Nothing}
+use Rattle.text_numerals.specs.declared.Numeral.the-variants.{Nothing}
 
 pub number-none : (t : List ℕ) → length t ≡ 0 → numberAt t ≡ Nothing
 unfolding numberAt

@@ -14,7 +14,7 @@ use mir.Val.{SFits}
 use borrow.Author.Tests.{leb-true}
 use Rattle.text_numerals.specs.Numerals.{digits, value, isNatural, naturalAt, Short}
 use Rattle.text_numerals.specs.Value.{value-short}
-use Rattle.text_numerals.specs.declared.read.Numeral.the-variants.{Number, Nothing}
+use Rattle.text_numerals.specs.declared.Numeral.the-variants.{Number, Nothing}
 
 pub record NaturalParts (ds : List ℕ) : Type 0 where
   pub some : 1 ≤ length ds

@@ -11,7 +11,7 @@ use mir.ValLaws.{toZ-ofZ}
 use borrow.Author.Tests.{eq-eqb, ne-eqb}
 use Rattle.text_numerals.specs.Natural.{natural-parts, natural-short, short-fits, NaturalRead}
 use Rattle.text_numerals.specs.Numerals.{digits, value, negative}
-use Rattle.text_numerals.specs.declared.read.Numeral.the-variants.{Number, Nothing}
+use Rattle.text_numerals.specs.declared.Numeral.the-variants.{Number, Nothing}
 
 negated-fits : (n : ℕ) → n < 10000000 → SFits w32 (negℤ (pos n))
 negated-fits zero h = short-fits (pos 0) h

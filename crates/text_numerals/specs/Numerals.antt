@@ -6,10 +6,10 @@ use lib.IntN.{ℤ, pos, negℤ, natAbs}
 use lib.ListN.{length, getD}
 use mathlib.Core.Bool.{Bool, cond, _&&_, _||_, not}
 use mathlib.Core.List.{List, [], _∷_}
-use Rattle.text_numerals.specs.Bytes.{minus, isDigit}
+use Rattle.text_decimals.specs.Bytes.{minus, isDigit}
 use Rattle.text_numerals.specs.Prefix.{prefix}
-use Rattle.text_numerals.specs.declared.read.Numeral.{Numeral}
-use Rattle.text_numerals.specs.declared.read.Numeral.the-variants.{Number, Nothing}
+use Rattle.text_numerals.specs.declared.Numeral.{Numeral}
+use Rattle.text_numerals.specs.declared.Numeral.the-variants.{Number, Nothing}
 
 -- the digits at the start of a text
 abbrev pub digits : List ℕ → List ℕ

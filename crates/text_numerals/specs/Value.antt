@@ -9,7 +9,7 @@ use mathlib.Core.Path.{_≡_, refl}
 use native.Mathlib.Nat.{mul-le-mul-right, pow-suc, pow-le-pow-right}
 use native.Mathlib.Numerals.{add-one}
 use native.Mathlib.Omega.{arith}
-use Rattle.text_numerals.specs.Bytes.{isDigit}
+use Rattle.text_decimals.specs.Bytes.{isDigit}
 use Rattle.text_numerals.specs.DigitsRead.{startsWithDigit, digits-ind, digit-range, digit-at}
 use Rattle.text_numerals.specs.Numerals.{digits, valueAfter, value}
 

@@ -1,4 +1,3 @@
 -- The answers as text.
 pub mod Paper
 pub mod Room
-pub mod Placements

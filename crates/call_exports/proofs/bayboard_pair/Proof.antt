@@ -9,8 +9,8 @@ use Rattle.call_in_place.proofs.Plain.{struct}
 use Rattle.call_reply_numbers.specs.Replies.{pairReply}
 use Rattle.call_reply_numbers.proofs.PairReply as T
 use Rattle.call_reply_numbers.proofs.PairReply.Laws as T′
-use Rattle.call_exports.proofs.by_value.pair.Met.{met}
-use Rattle.call_exports.proofs.by_value.pair.Symbol as by-value
+use Rattle.call_exports_by_value.proofs.pair.Met.{met}
+use Rattle.call_exports_by_value.proofs.pair.Symbol as by-value
 use Rattle.call_exports.proofs.bayboard_pair as pair
 use Rattle.call_exports.proofs.bayboard_pair.Code as code
 use Rattle.call_exports.proofs.bayboard_pair.Key.{name}
@@ -21,4 +21,4 @@ unfolding code.routine
 bayboard-pair-spec 𝓤 H 𝓜 𝓖 𝓡 =
     law (numbers 2) (struct T.the-type T′.the-laws T′.the-plain T′.the-copy) none (λ b z r. r ≡ pairReply (looking.pair b (z .0) (z .1 .0))) 𝓤 H 𝓜 𝓖 𝓡
     (λ κs a. pair.clauses 𝓤 H (𝓖 .A) (𝓜 .mem) (𝓡 .run) κs a .ensures) (λ κs a r e. holds 𝓤 e)
-    code.env name by-value.name by-value.routine (code.unfolded 𝓤 H 𝓜 𝓡) code.calls-call-exports·by-value·pair (met 𝓤 H 𝓜 𝓖 𝓡)
+    code.env name by-value.name by-value.routine (code.unfolded 𝓤 H 𝓜 𝓡) code.calls-call-exports-by-value·pair (met 𝓤 H 𝓜 𝓖 𝓡)

@@ -6,8 +6,8 @@ use Rattle.paper_closure.specs.Check as check
 use Rattle.call_in_place.proofs.Called.{holds}
 use Rattle.call_in_place.proofs.Looked.{law}
 use Rattle.call_in_place.proofs.Plain.{truth}
-use Rattle.call_exports.proofs.by_value.passes.Met.{met}
-use Rattle.call_exports.proofs.by_value.passes.Symbol as by-value
+use Rattle.call_exports_by_value.proofs.passes.Met.{met}
+use Rattle.call_exports_by_value.proofs.passes.Symbol as by-value
 use Rattle.call_exports.proofs.bayboard_passes as passes
 use Rattle.call_exports.proofs.bayboard_passes.Code as code
 use Rattle.call_exports.proofs.bayboard_passes.Key.{name}
@@ -18,4 +18,4 @@ unfolding code.routine
 bayboard-passes-spec 𝓤 H 𝓜 𝓖 𝓡 =
     law [] truth none (λ b z r. r ≡ check.passes b) 𝓤 H 𝓜 𝓖 𝓡
     (λ κs a. passes.clauses 𝓤 H (𝓖 .A) (𝓜 .mem) (𝓡 .run) κs a .ensures) (λ κs a r e. holds 𝓤 e)
-    code.env name by-value.name by-value.routine (code.unfolded 𝓤 H 𝓜 𝓡) code.calls-call-exports·by-value·passes (met 𝓤 H 𝓜 𝓖 𝓡)
+    code.env name by-value.name by-value.routine (code.unfolded 𝓤 H 𝓜 𝓡) code.calls-call-exports-by-value·passes (met 𝓤 H 𝓜 𝓖 𝓡)

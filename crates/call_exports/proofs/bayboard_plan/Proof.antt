@@ -9,8 +9,8 @@ use Rattle.call_in_place.proofs.Plain.{struct}
 use Rattle.call_reply_numbers.specs.Replies.{planReply}
 use Rattle.call_reply_numbers.proofs.PlanReply as T
 use Rattle.call_reply_numbers.proofs.PlanReply.Laws as T′
-use Rattle.call_exports.proofs.by_value.plan.Met.{met}
-use Rattle.call_exports.proofs.by_value.plan.Symbol as by-value
+use Rattle.call_exports_by_value.proofs.plan.Met.{met}
+use Rattle.call_exports_by_value.proofs.plan.Symbol as by-value
 use Rattle.call_exports.proofs.bayboard_plan as plan
 use Rattle.call_exports.proofs.bayboard_plan.Code as code
 use Rattle.call_exports.proofs.bayboard_plan.Key.{name}
@@ -21,4 +21,4 @@ unfolding code.routine
 bayboard-plan-spec 𝓤 H 𝓜 𝓖 𝓡 =
     law (numbers 1) (struct T.the-type T′.the-laws T′.the-plain T′.the-copy) none (λ b z r. r ≡ planReply (planning.plan b (z .0))) 𝓤 H 𝓜 𝓖 𝓡
     (λ κs a. plan.clauses 𝓤 H (𝓖 .A) (𝓜 .mem) (𝓡 .run) κs a .ensures) (λ κs a r e. holds 𝓤 e)
-    code.env name by-value.name by-value.routine (code.unfolded 𝓤 H 𝓜 𝓡) code.calls-call-exports·by-value·plan (met 𝓤 H 𝓜 𝓖 𝓡)
+    code.env name by-value.name by-value.routine (code.unfolded 𝓤 H 𝓜 𝓡) code.calls-call-exports-by-value·plan (met 𝓤 H 𝓜 𝓖 𝓡)

@@ -9,8 +9,8 @@ use Rattle.call_in_place.proofs.Plain.{struct}
 use Rattle.call_reply_numbers.specs.Replies.{rowReply}
 use Rattle.call_reply_numbers.proofs.RowReply as T
 use Rattle.call_reply_numbers.proofs.RowReply.Laws as T′
-use Rattle.call_exports.proofs.by_value.row.Met.{met}
-use Rattle.call_exports.proofs.by_value.row.Symbol as by-value
+use Rattle.call_exports_by_value.proofs.row.Met.{met}
+use Rattle.call_exports_by_value.proofs.row.Symbol as by-value
 use Rattle.call_exports.proofs.bayboard_row as row
 use Rattle.call_exports.proofs.bayboard_row.Code as code
 use Rattle.call_exports.proofs.bayboard_row.Key.{name}
@@ -21,4 +21,4 @@ unfolding code.routine
 bayboard-row-spec 𝓤 H 𝓜 𝓖 𝓡 =
     law (numbers 1) (struct T.the-type T′.the-laws T′.the-plain T′.the-copy) none (λ b z r. r ≡ rowReply (looking.row b (z .0))) 𝓤 H 𝓜 𝓖 𝓡
     (λ κs a. row.clauses 𝓤 H (𝓖 .A) (𝓜 .mem) (𝓡 .run) κs a .ensures) (λ κs a r e. holds 𝓤 e)
-    code.env name by-value.name by-value.routine (code.unfolded 𝓤 H 𝓜 𝓡) code.calls-call-exports·by-value·row (met 𝓤 H 𝓜 𝓖 𝓡)
+    code.env name by-value.name by-value.routine (code.unfolded 𝓤 H 𝓜 𝓡) code.calls-call-exports-by-value·row (met 𝓤 H 𝓜 𝓖 𝓡)

@@ -1,4 +1,4 @@
--- `text_replies::entry_reply` meets its contract, case by case. Assumes nothing.
+-- `call_reply_numbers::entry_reply` meets its contract, case by case. Assumes nothing.
 use borrow.Author.Needs.{needs}
 use Rattle.call_reply_numbers.proofs.entry_reply.Statement.{statement}
 use Rattle.call_reply_numbers.proofs.entry_reply.Tie as tie

@@ -1,4 +1,4 @@
--- `text_replies::plan_reply` meets its contract, field by field. Assumes nothing.
+-- `call_reply_numbers::plan_reply` meets its contract, field by field. Assumes nothing.
 use borrow.Author.Needs.{needs}
 use Rattle.call_reply_numbers.proofs.plan_reply.Statement.{statement}
 use Rattle.call_reply_numbers.proofs.plan_reply.Tie as tie

@@ -1,4 +1,4 @@
--- `text_replies::row_reply` meets its contract, case by case. Assumes nothing.
+-- `call_reply_numbers::row_reply` meets its contract, case by case. Assumes nothing.
 use borrow.Author.Needs.{needs}
 use mir.Syntax.{w32}
 use mir.Val.{SFits}

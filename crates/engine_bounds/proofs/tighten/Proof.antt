@@ -8,8 +8,8 @@ use mir.Val.{SFits}
 use mir.ValLaws.{toZ-ofZ}
 use Rattle.ground_arithmetic.specs.Bools.{refuted}
 use Rattle.paper_board.specs.Paper.Values.{sideOf}
-use Rattle.paper_board.specs.Update.Filled.{filled}
-use Rattle.paper_board.specs.Update.Shown.{bound-shown}
+use Rattle.paper_rules.specs.Update.Filled.{filled}
+use Rattle.paper_rules.specs.Update.Shown.{bound-shown}
 use Rattle.engine_windows.specs.Windows.{bounded}
 use Rattle.engine_windows.specs.WindowLaws.{bounded-moderate}
 use Rattle.engine_bounds.specs.Tightened.{bound-fits, bound-cramped}

@@ -8,7 +8,7 @@ use Rattle.ground_arithmetic.specs.Bools.{is-false, refuted}
 use Rattle.paper_board.specs.declared.Board.{Board}
 use Rattle.paper_board.specs.Paper.View.{view}
 use Rattle.paper_board.specs.Paper.Limits.{Within, BooksWithin}
-use Rattle.paper_board.specs.Inference.Infers.{Obeys}
+use Rattle.paper_rules.specs.Inference.Infers.{Obeys}
 use Rattle.paper_board.specs.Tests.LimitsDecided.{limits-yes, limits-show, decides-books}
 use Rattle.engine_findings.specs.Searched.{Searched}
 use Rattle.engine_findings.specs.Values.{inferredOf}

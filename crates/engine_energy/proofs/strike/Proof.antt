@@ -10,9 +10,10 @@ use lib.Signed.{leZ, _<ℤ_, _≤ℤ_}
 use mir.Syntax.{w32}
 use mir.Val.{toZ, ofZ}
 use mir.ValLaws.{toZ-ofZ}
-use Rattle.ground_sets.specs.Bit.{bit, without, Takes}
+use Rattle.ground_sets.specs.Bit.{bit, without}
+use Rattle.ground_walks.specs.Takes.{Takes}
 use Rattle.ground_sets.specs.BitLaws.{bit-zero}
-use Rattle.ground_sets.specs.Walk.{taken-out}
+use Rattle.ground_walks.specs.Walk.{taken-out}
 use Rattle.ground_arithmetic.specs.Bools.{refuted}
 use Rattle.ground_arithmetic.specs.Linear.{whole, plus, minus}
 use Rattle.ground_arithmetic.specs.Sum.{total-subset}
@@ -20,8 +21,8 @@ use Rattle.ground_arithmetic.specs.Time.{Moderate, lesser}
 use Rattle.paper_board.specs.Paper.View.{Side}
 use Rattle.paper_board.specs.Paper.Limits.{jobLimit, lastMinute}
 use Rattle.paper_board.specs.Paper.Values.{sideOf}
-use Rattle.engine_energy.specs.Energy.{boundAt, lengthAt, Lengths, load, Strikes, none-struck, struck, Beats}
-use Rattle.engine_energy.specs.Laws.{bound-moderate, length-fits, length-moderate, load-moderate, strikes-inside}
+use Rattle.engine_sums.specs.Sums.{boundAt, lengthAt, Lengths, load, Strikes, none-struck, struck, Beats}
+use Rattle.engine_sums.specs.Laws.{bound-moderate, length-fits, length-moderate, load-moderate, strikes-inside}
 use Rattle.engine_energy.specs.Members.{total-without}
 use Rattle.engine_energy.specs.Passed.{Passed, none-passed, all-passed, pass, pass-struck, kept-passed}
 use Rattle.engine_energy.proofs.strike.Statement.{statement}

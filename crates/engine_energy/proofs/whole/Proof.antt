@@ -9,15 +9,16 @@ use lib.IntN.{ℤ, pos, _+ℤ_}
 use mir.Syntax.{w32}
 use mir.Val.{toZ}
 use mir.ValLaws.{toZ-ofZ}
-use Rattle.ground_sets.specs.Bit.{bit, Takes}
+use Rattle.ground_sets.specs.Bit.{bit}
+use Rattle.ground_walks.specs.Takes.{Takes}
 use Rattle.ground_arithmetic.specs.Linear.{whole, plus}
 use Rattle.ground_arithmetic.specs.Sum.{total-member}
 use Rattle.ground_arithmetic.specs.Time.{Moderate, lesser}
 use Rattle.paper_board.specs.Paper.View.{Side}
 use Rattle.paper_board.specs.Paper.Limits.{jobLimit}
 use Rattle.paper_board.specs.Paper.Values.{sideOf}
-use Rattle.engine_energy.specs.Energy.{boundAt, lengthAt, Times, Lengths, load, Comes}
-use Rattle.engine_energy.specs.Laws.{length-fits, length-moderate, load-range, load-none}
+use Rattle.engine_sums.specs.Sums.{boundAt, lengthAt, Times, Lengths, load, Comes}
+use Rattle.engine_sums.specs.Laws.{length-fits, length-moderate, load-range, load-none}
 use Rattle.engine_energy.specs.Passed.{Passed, none-passed, all-passed, pass}
 use Rattle.engine_energy.proofs.whole.Statement.{statement}
 use Rattle.engine_energy.proofs.whole.Tie as tie

@@ -6,7 +6,7 @@ use Rattle.paper_board.specs.declared.Board.{Board}
 use Rattle.paper_board.specs.Paper.View.{Live, early, view, rowOf}
 use Rattle.paper_board.specs.Tests.Live.{roomy}
 use Rattle.paper_board.specs.Tests.Ranges.{time-moderate}
-use Rattle.engine_energy.specs.Laws.{time-fits, length-fits, length-moderate}
+use Rattle.engine_sums.specs.Laws.{time-fits, length-fits, length-moderate}
 use Rattle.engine_findings.specs.Values.{inferredOf}
 use Rattle.engine_findings.specs.Searched.{Searched}
 use Rattle.engine_job_rules.specs.Settled.{Settled}

@@ -3,7 +3,7 @@ use mir.Syntax.{w32}
 use mir.Val.{SFits}
 use mir.ValLaws.{toZ-ofZ}
 use Rattle.paper_board.specs.Paper.Values.{sideOf}
-use Rattle.engine_energy.specs.Energy.{boundOf}
+use Rattle.engine_sums.specs.Sums.{boundOf}
 use Rattle.engine_job_rules.specs.JobSearched.{SideSearched, told, side-searched}
 use borrow.Author.Needs.{needs}
 use Rattle.engine_job_rules.proofs.at_side.Statement.{statement}

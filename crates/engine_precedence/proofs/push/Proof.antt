@@ -1,8 +1,8 @@
 -- `engine_precedence::push` meets its contract: one job after the other. The measure is the word of the jobs that are left. Assumes nothing.
 use borrow.Author.Needs.{needs}
 use Rattle.paper_board.specs.Paper.Values.{sideOf}
-use Rattle.engine_energy.specs.Energy.{Times}
-use Rattle.engine_precedence.specs.Leading.{Leaves, unknown-leaves}
+use Rattle.engine_sums.specs.Sums.{Times}
+use Rattle.engine_leading.specs.Leading.{Leaves, unknown-leaves}
 use Rattle.engine_precedence.specs.Precedence.{Raises, Shuts, Reads, raises-none, shuts-none, pushed-on}
 use Rattle.engine_precedence.proofs.push.Statement.{statement}
 use Rattle.engine_precedence.proofs.push.Tie as tie

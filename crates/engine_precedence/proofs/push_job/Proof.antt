@@ -12,11 +12,11 @@ use mir.Val.{SFits}
 use mir.ValLaws.{toZ-ofZ}
 use Rattle.paper_board.specs.Paper.Values.{sideOf, turned}
 use Rattle.paper_board.specs.Tests.Ranges.{time-moderate}
-use Rattle.engine_energy.specs.Energy.{Pushes}
-use Rattle.engine_energy.specs.Laws.{time-fits, length-fits, length-moderate}
-use Rattle.engine_job_rules.specs.BoundBeyond.{pushing}
+use Rattle.engine_sums.specs.Sums.{Pushes}
+use Rattle.engine_sums.specs.Laws.{time-fits, length-fits, length-moderate}
+use Rattle.engine_bound_beyond.specs.BoundBeyond.{pushing}
 use Rattle.engine_precedence.specs.Bounds.{below}
-use Rattle.engine_precedence.specs.Leading.{LeadsTo}
+use Rattle.engine_leading.specs.Leading.{LeadsTo}
 use Rattle.engine_precedence.specs.Precedence.{raises-none, raises-then, shuts-none, shuts-job, times-set, room-time, pushed-moderate}
 use Rattle.engine_precedence.proofs.push_job.Statement.{statement}
 use Rattle.engine_precedence.proofs.push_job.Tie as tie
@@ -24,18 +24,22 @@ use Rattle.engine_precedence.proofs.push_job.Tie as tie
 time-fits-32 : (c : tie.After-struct-told) → SFits w32 (c .before .args .leading .time)
 time-fits-32 c = search needs
 
+-- places that the answers look back to: where the time is read, and the start
+abbrev told : tie.Else2 → tie.After-struct-told
+told c = c .before .before .before .before .before
+
+abbrev start : tie.Else2 → tie.Start
+start c = told c .before
+
 -- the bound is above the job's own
 above : (c : tie.Else2)
     → let a = c .before .before .before .before .before .before .args in
     let side = sideOf (a .side) in
     Pushes side (a .times .now) (a .lengths .now) (a .leading .set) (a .job) (some (turned side (a .leading .time)))
 above c =
-    let some-lead = c .before .before .before in
-    let told = some-lead .before .before in
-    let start = told .before in
-    let own = time-fits (start .pre .1 .time (start .args .job)) in
-    let lower = sym (simp (toZ-ofZ, own, time-fits-32 told) at (c .before .is-lower .ensures)) ∙ not-false _ (c .if2 .left) in
-    (start .pre .4 (some-lead .if1 .left), below lower)
+    let own = time-fits (start c .pre .1 .time (start c .args .job)) in
+    let lower = sym (simp (toZ-ofZ, own, time-fits-32 (told c)) at (c .before .is-lower .ensures)) ∙ not-false _ (c .if2 .left) in
+    (start c .pre .4 (c .before .before .before .if1 .left), below lower)
 
 -- and pushes it, where the set is that of the valid jobs beyond it
 beyond-it : (c : tie.Else2)
@@ -47,28 +51,24 @@ beyond-it c beyond e = rw (e (c .before .before .before .if1 .left)) at (above c
 
 returns : tie.Need-returns
 returns c =
-    let start = c .before .before .before .before in
-    ((start .pre .1, λ x different. refl), (λ beyond e. raises-none _ _ _ _ _ _, λ beyond e. rw (c .unmoved .ensures) (shuts-none _ _ _ _ _ _)))
+    let at = c .before .before .before .before in
+    ((at .pre .1, λ x different. refl), (λ beyond e. raises-none _ _ _ _ _ _, λ beyond e. rw (c .unmoved .ensures) (shuts-none _ _ _ _ _ _)))
 
 holds-requires : tie.Need-holds-requires
 holds-requires c κs =
     let else = c .before .before in
-    let told = else .before .before .before .before .before in
-    let start = told .before in
-    let (_, hours, other, work, _) = start .pre in
-    let k = start .args .job in
-    simp (toZ-ofZ, time-fits-32 told, time-fits (other .time k), length-fits work k)
+    let (_, hours, other, work, _) = start else .pre in
+    let k = start else .args .job in
+    simp (toZ-ofZ, time-fits-32 (told else), time-fits (other .time k), length-fits work k)
     (pushed-moderate _ _ _ _ hours work (above else), time-moderate (other .time k), length-moderate work k)
 
 returns-2 : tie.Need-returns-2
 returns-2 c =
     let else = c .before .before .before .before .before .before in
-    let told = else .before .before .before .before .before in
-    let start = told .before in
-    let (_, hours, other, work, _) = start .pre in
-    let a = start .args in
+    let (_, hours, other, work, _) = start else .pre in
+    let a = start else .args in
     let k = a .job in
-    let time = time-fits-32 told in
+    let time = time-fits-32 (told else) in
     let fits = rw (simp (toZ-ofZ, time, time-fits (other .time k), length-fits work k) at (c .before .before .before .holds .ensures)) at (c .before .before .if3 .taken) in
     let side = sideOf (a .side) in
     let is = room-time side _ _ _ _ (hours .time k) (other .time k) (work .low k) (above else .1) fits in
@@ -83,12 +83,10 @@ returns-2 c =
 returns-3 : tie.Need-returns-3
 returns-3 c =
     let else = c .before .before .before .before .before in
-    let told = else .before .before .before .before .before in
-    let start = told .before in
-    let (_, hours, other, work, _) = start .pre in
-    let k = start .args .job in
-    let time = time-fits-32 told in
-    let side = sideOf (start .args .side) in
+    let (_, hours, other, work, _) = start else .pre in
+    let k = start else .args .job in
+    let time = time-fits-32 (told else) in
+    let side = sideOf (start else .args .side) in
     let full = rw (simp (toZ-ofZ, time, time-fits (other .time k), length-fits work k) at (c .before .before .holds .ensures)) at (c .before .if3 .left) in
     let it = c .with .ensures in (
       (hours, λ x different. refl),

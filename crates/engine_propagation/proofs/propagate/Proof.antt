@@ -2,7 +2,7 @@
 use borrow.Author.Needs.{needs}
 use Prim.Native.Nat.{_≤_, _-_}
 use native.Mathlib.Omega.{arith}
-use Rattle.engine_energy.specs.Energy.{Times}
+use Rattle.engine_sums.specs.Sums.{Times}
 use Rattle.engine_propagation.specs.Turns.{Run, run-none, run-on, run-onward, run-shut}
 use Rattle.engine_propagation.proofs.propagate.Statement.{statement}
 use Rattle.engine_propagation.proofs.propagate.Tie as tie

@@ -3,14 +3,14 @@
 use mathlib.Core.Path.{ap, subst}
 use Prim.Native.Nat.{_<_}
 use native.Mathlib.Omega.{arith}
-use Rattle.ground_sets.specs.Walk.{visited, none-left}
+use Rattle.ground_walks.specs.Walk.{visited, none-left}
 use Rattle.paper_board.specs.declared.Board.{Board}
 use Rattle.paper_board.specs.Paper.Limits.{jobLimit}
 use Rattle.paper_board.specs.Paper.View.{view}
 use Rattle.engine_findings.specs.Values.{inferredOf}
 use Rattle.engine_findings.specs.Searched.{Searched}
 use Rattle.engine_job_rules.specs.JobSearched.{JobSettled, read-early, read-late}
-use Rattle.engine_job_rules.specs.Dominance.{represented}
+use Rattle.engine_dominance.specs.Dominance.{represented}
 use Rattle.engine_search.specs.PairsWalk.{Read, JobsLeft, all-left, done-settled}
 use borrow.Author.Needs.{needs}
 use Rattle.engine_search.proofs.at_jobs.Statement.{statement}

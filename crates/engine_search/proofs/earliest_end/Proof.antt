@@ -6,7 +6,7 @@ use mir.ValLaws.{toZ-ofZ}
 use Rattle.ground_arithmetic.specs.Time.{Moderate}
 use Rattle.paper_board.specs.Paper.View.{early}
 use Rattle.paper_board.specs.Tests.Ranges.{time-moderate}
-use Rattle.engine_energy.specs.Laws.{time-fits, length-fits, length-moderate, end-moderate}
+use Rattle.engine_sums.specs.Laws.{time-fits, length-fits, length-moderate, end-moderate}
 use Rattle.engine_search.proofs.earliest_end.Statement.{statement}
 use Rattle.engine_search.proofs.earliest_end.Tie as tie
 

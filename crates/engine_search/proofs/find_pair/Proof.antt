@@ -7,15 +7,15 @@ use lib.ListN.{getD}
 use mir.Syntax.{w32}
 use mir.Val.{toZ, ofZ}
 use mir.ValLaws.{toZ-ofZ}
-use Rattle.ground_sets.specs.Walk.{visited, none-left}
+use Rattle.ground_walks.specs.Walk.{visited, none-left}
 use Rattle.ground_arithmetic.specs.Bools.{refuted}
 use Rattle.paper_board.specs.declared.Board.{Board}
 use Rattle.paper_board.specs.Paper.View.{Live, view}
 use Rattle.paper_board.specs.Tests.Decides.{Decides}
 use Rattle.engine_findings.specs.Searched.{PairObeys}
 use Rattle.engine_search.specs.declared.Pair.the-variants.{None}
-use Rattle.engine_search.specs.Rows.{RowRead, pair-read}
-use Rattle.engine_search.specs.Settled.{PairsLeft, obeys-settled}
+use Rattle.engine_partners.specs.Rows.{RowRead, pair-read}
+use Rattle.engine_partners.specs.Settled.{PairsLeft, obeys-settled}
 use Rattle.engine_search.specs.PairsWalk.{Read, EarliestEnd, RowsLeft, all-left, row-read}
 use borrow.Author.Needs.{needs}
 use Rattle.engine_search.proofs.find_pair.Statement.{statement}

@@ -4,8 +4,8 @@ use borrow.Author.Needs.{needs}
 use mir.Syntax.{w32}
 use mir.Val.{SFits}
 use mir.ValLaws.{toZ-ofZ}
-use Rattle.paper_board.specs.Update.Filled.{filled}
-use Rattle.paper_board.specs.Update.Updates.{update}
+use Rattle.paper_rules.specs.Update.Filled.{filled}
+use Rattle.paper_rules.specs.Update.Updates.{update}
 use Rattle.engine_updates.proofs.update.Statement.{statement}
 use Rattle.engine_updates.proofs.update.Tie as tie
 

@@ -2,7 +2,7 @@
 use lib.Seq.{set-getD}
 use borrow.Author.Needs.{needs}
 use borrow.Author.Tests.{eq-eqb, ne-eqb}
-use Rattle.paper_board.specs.Update.Updates.{update}
+use Rattle.paper_rules.specs.Update.Updates.{update}
 use Rattle.engine_updates.proofs.validate.Statement.{statement}
 use Rattle.engine_updates.proofs.validate.Tie as tie
 

@@ -6,7 +6,7 @@ use lib.IntN.{ℤ, pos, _+ℤ_, _-ℤ_}
 use lib.Signed.{_<ℤ_}
 use Rattle.ground_sets.specs.Bit.{bit}
 use Rattle.paper_board.specs.Paper.View.{View, Live, Invalid, Arc}
-use Rattle.paper_board.specs.Paper.Rules.{E, D}
+use Rattle.paper_rules.specs.Paper.Rules.{E, D}
 use Rattle.paper_entries.specs.Paper.Answers.{RowReply, shows-row, PairReply, shows-pair}
 
 -- "Row of a job: mark, E, D, the set before it and the set after it."

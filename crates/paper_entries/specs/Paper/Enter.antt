@@ -9,7 +9,7 @@ use Rattle.paper_board.specs.declared.Refusal.the-variants as Refused
 use Rattle.paper_board.specs.Paper.Facts.{Fact}
 use Rattle.paper_board.specs.Paper.Limits.{tallyLimit}
 use Rattle.paper_board.specs.Paper.Parts.{withBooks, withTally}
-use Rattle.paper_board.specs.Update.Updates.{update, append, _andThen_}
+use Rattle.paper_rules.specs.Update.Updates.{update, append, _andThen_}
 use Rattle.paper_closure.specs.Closing.{closure}
 use Rattle.paper_closure.specs.Check.{passes}
 use Rattle.paper_entries.specs.declared.Answer.{Answer}

@@ -10,7 +10,7 @@ use lib.ListN.{length, getD}
 use Rattle.ground_arithmetic.specs.Linear.{above}
 use Rattle.paper_board.specs.Paper.View.{Row, early, late}
 use Rattle.paper_board.specs.Paper.Facts.{Fact, is-arc, is-bound, is-valid, is-invalid}
-use Rattle.paper_board.specs.Paper.Entries.{Entries}
+use Rattle.paper_rules.specs.Paper.Entries.{Entries}
 use Rattle.paper_board.specs.Paper.Limits.{zeroRow}
 
 -- an entry about jobs that are on the board

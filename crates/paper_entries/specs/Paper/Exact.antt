@@ -5,8 +5,8 @@ use mathlib.Core.Option.{none, some}
 use Rattle.paper_board.specs.declared.Board.{Board}
 use Rattle.paper_board.specs.declared.Refusal.{Refusal}
 use Rattle.paper_board.specs.declared.Refusal.the-variants as Refused
-use Rattle.paper_board.specs.Paper.Entries.{Entries}
-use Rattle.paper_board.specs.Paper.Closed.{LeastClosed, Contradiction}
+use Rattle.paper_rules.specs.Paper.Entries.{Entries}
+use Rattle.paper_rules.specs.Paper.Closed.{LeastClosed, Contradiction}
 use Rattle.paper_entries.specs.declared.Entered.{Entered}
 use Rattle.paper_entries.specs.Paper.Entry.{Entry, withEntry}
 use Rattle.paper_entries.specs.Paper.Gate.{checks, gate}

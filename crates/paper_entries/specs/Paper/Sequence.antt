@@ -4,6 +4,8 @@ use mathlib.Core.List.{List, [], _∷_, _++_}
 use Prim.Native.Nat.{ℕ, _+_}
 use lib.Dec.{eqb}
 use Rattle.paper_board.specs.declared.Board.{Board}
+use Rattle.paper_board.specs.declared.Books.{Books}
+use Rattle.paper_board.specs.Paper.Limits.{emptyBoard}
 use Rattle.paper_entries.specs.declared.Entered.{Entered}
 use Rattle.paper_entries.specs.Paper.Entry.{Entry}
 use Rattle.paper_entries.specs.Paper.Enter.{enter}
@@ -39,6 +41,14 @@ kept (no-number r) e = []
 unfoldable pub accepted : Board → List Call → List Entry
 accepted b [] = []
 accepted b (c ∷ cs) = kept (replyOf (outcome b c .answer)) (c .entry) ++ accepted (outcome b c .board) cs
+
+-- the board after the calls, from an empty board with these books
+abbrev pub finalBoard : Books → List Call → Board
+finalBoard books cs = after (emptyBoard books) cs
+
+-- what the calls accepted, in order
+abbrev pub acceptedBy : Books → List Call → List Entry
+acceptedBy books cs = accepted (emptyBoard books) cs
 
 -- "a tally of calls answered 8": how many of the calls are
 abbrev pub oneImpossible : Reply → ℕ

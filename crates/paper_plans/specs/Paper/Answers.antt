@@ -5,7 +5,7 @@ use lib.IntN.{ℤ, pos}
 use lib.ListN.{getD}
 use Rattle.ground_sets.specs.Bit.{bit}
 use Rattle.paper_board.specs.Paper.Refusals.{numberOf}
-use Rattle.paper_board.specs.Paper.Schedules.{Placing}
+use Rattle.paper_rules.specs.Paper.Schedules.{Placing}
 use Rattle.paper_plans.specs.declared.PlanAnswer.{PlanAnswer}
 use Rattle.paper_plans.specs.declared.PlanAnswer.the-variants as Answers
 use Rattle.paper_plans.specs.declared.Planned.{Planned}

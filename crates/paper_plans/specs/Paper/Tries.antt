@@ -8,8 +8,8 @@ use lib.ListN.{length}
 use lib.Signed.{leZ}
 use Rattle.ground_arithmetic.specs.Time.{greater}
 use Rattle.paper_board.specs.Paper.View.{View}
-use Rattle.paper_board.specs.Paper.Rules.{E, D, L}
-use Rattle.paper_board.specs.Paper.Schedules.{Placing}
+use Rattle.paper_rules.specs.Paper.Rules.{E, D, L}
+use Rattle.paper_rules.specs.Paper.Schedules.{Placing}
 use Rattle.paper_board.specs.Paper.Tests.{implies}
 use Rattle.paper_plans.specs.Paper.Lists.{keep, every, among}
 

@@ -5,8 +5,8 @@ use mathlib.Core.Path.{_≡_, sym, _∙_}
 use native.Mathlib.Omega.{arith}
 use lib.ListN.{length, take}
 use borrow.Author.Needs.{needs}
-use Rattle.text_numerals.specs.Rest.{rest-length}
-use Rattle.text_answers.specs.Pieces.{pieces-pass}
+use Rattle.text_decimals.specs.Rest.{rest-length}
+use Rattle.text_pieces.specs.Pieces.{pieces-pass}
 use Rattle.program_console.specs.Buffered.{Buffered, first-piece, next-piece, all-answered}
 use Rattle.program_console.proofs.answer.Statement.{statement}
 use Rattle.program_console.proofs.answer.Tie as tie

@@ -5,7 +5,7 @@ use lib.IntN.{ℤ, pos}
 use lib.ListN.{getD}
 use mathlib.Core.List.{List, [], _∷_}
 use mathlib.Core.Option.{none, some}
-use Rattle.text_numerals.specs.Bytes.{bytes}
+use Rattle.text_decimals.specs.Bytes.{bytes}
 use Rattle.text_formats.specs.Format.{scan}
 use Rattle.paper_entries.specs.declared.Entry.the-variants.{Addition, Arc, Mark, Cut}
 use Rattle.text_forms.specs.declared.Form.{Form}

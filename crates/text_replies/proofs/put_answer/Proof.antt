@@ -1,7 +1,7 @@
 -- `text_replies::put_answer` meets its contract. Assumes nothing.
 use native.Mathlib.Omega.{arith}
 use borrow.Author.Needs.{needs}
-use Rattle.text_numerals.specs.Written.{weaken-written}
+use Rattle.text_decimals.specs.Written.{weaken-written}
 use Rattle.text_replies.proofs.put_answer.Statement.{statement}
 use Rattle.text_replies.proofs.put_answer.Tie as tie
 

@@ -4,10 +4,10 @@ use Prim.Native.String.{String}
 use lib.IntN.{ℤ}
 use mathlib.Core.Bool.{Bool, true, false}
 use mathlib.Core.List.{List, [], _∷_, _++_}
-use Rattle.text_numerals.specs.Bytes.{bytes}
+use Rattle.text_decimals.specs.Bytes.{bytes}
 use Rattle.text_formats.specs.Format.{filled}
 use Rattle.paper_board.specs.Paper.Limits.{jobLimit}
-use Rattle.paper_board.specs.Paper.Schedules.{Placing}
+use Rattle.paper_rules.specs.Paper.Schedules.{Placing}
 use Rattle.paper_entries.specs.Paper.Answers.{Reply, ok-number, ok, no-number, RowReply, shows-row, no-row, PairReply, shows-pair, no-pair}
 use Rattle.paper_plans.specs.Paper.Answers.{PlanReply, plan-found, plan-none, plan-spent, no-plan}
 use Rattle.paper_plans.specs.Paper.Lists.{range}

@@ -5,9 +5,9 @@ use mathlib.Core.Path.{_≡_}
 use native.Mathlib.Nat.{sub-zero}
 use native.Mathlib.Omega.{arith}
 use borrow.Author.Needs.{needs}
-use Rattle.text_numerals.specs.Rest.{rest-length}
+use Rattle.text_decimals.specs.Rest.{rest-length}
 use Rattle.text_formats.specs.Format as formats
-use Rattle.text_formats.specs.Scan.{scanned}
+use Rattle.text_scans.specs.Scan.{scanned}
 use Rattle.text_forms.specs.LineLaws.{lineLength}
 use Rattle.text_forms.specs.TableLaws.{Scanning, First, first-line, scanning-start, none-left, found-here, found-later}
 use Rattle.text_forms.proofs.table.first.Statement.{statement}

@@ -1,0 +1,2 @@
+-- Propagation on a board's arrays, as a run of inferences.
+pub mod Advances

@@ -1,0 +1,2 @@
+-- Arcs put on a board, as inferences.
+pub mod Arcs

@@ -1,0 +1,2 @@
+-- Detected arcs: that setting them is sound.
+pub mod Detection

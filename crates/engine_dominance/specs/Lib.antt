@@ -1,0 +1,2 @@
+-- Dominance between the jobs on one side of others.
+pub mod Dominance

@@ -1,0 +1,2 @@
+-- A bound that valid jobs leave to those behind them.
+pub mod Leading

@@ -1,4 +1,0 @@
--- Ordering: arcs inferred one after the other.
-pub mod Arcs
-pub mod Transitivity
-pub mod Detection

@@ -1,0 +1,2 @@
+-- Joined arcs: that setting them is sound.
+pub mod Transitivity

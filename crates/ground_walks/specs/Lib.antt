@@ -1,0 +1,3 @@
+-- Walks over a set: the definitions, and their laws.
+pub mod Takes
+pub mod Walk

@@ -1,5 +1,0 @@
--- The order of boards by how much they show.
-pub mod Laws
-pub mod Leastness
-pub mod Unique
-pub mod Tabulated

@@ -1,0 +1,1 @@
+// The rules, closed boards and schedules: no code of its own.

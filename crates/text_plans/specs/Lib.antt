@@ -1,0 +1,2 @@
+-- The placements of a plan as text.
+pub mod Placements
