@@ -6,6 +6,7 @@ use engine_ends::all_ends;
 use engine_ends::found_at;
 use engine_ends::no_ends;
 use engine_pair_rules::is_late;
+use engine_partners::kept_apart;
 use engine_sums::end;
 use paper_board::Board;
 use paper_board::facts::Side;
@@ -86,16 +87,6 @@ fn detect_beside<'a>(
     found_at(job, into, onward, before, after)
 }
 
-// Of the jobs `beside`, which have an arc to or from the job, those that R4 to R6 keep apart from it, since it or they are valid.
-fn kept_apart(job: usize, valid: u64, beside: u64) -> u64
-    requires { ⌜ job < jobLimit ⌝ }
-{
-    if ground_sets::has(valid, job) {
-        return beside;
-    }
-    ground_sets::intersection(beside, valid)
-}
-
 // The arcs between each job of `due` and those of `others` that are not kept apart from it. Gives the ends of those that are new.
 fn detect_each<'a>(
     side: Side,
@@ -174,7 +165,7 @@ fn is_single(set: u64) -> bool
 
 // The live jobs to which those that are due may get arcs. For one that is due all are tested; for many the last of their ends
 // rules most of them out at once.
-fn partners<'a>(
+fn candidates<'a>(
     side: Side,
     due: u64,
     live: u64,
@@ -219,7 +210,7 @@ pub fn detect_arcs<'a>(
     if moved == 0 {
         return no_ends();
     }
-    let others = partners(side, moved, live, earliest, latest, lengths);
+    let others = candidates(side, moved, live, earliest, latest, lengths);
     detect_each(
         side,
         before,

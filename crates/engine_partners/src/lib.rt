@@ -59,15 +59,15 @@ fn late(set: u64, end: i32, latest: &[i32; Board::JOBS], lengths: &[i32; Board::
     left
 }
 
-// The jobs after i that R4 to R6 keep apart from it, since i or they are valid.
-fn kept_apart(i: usize, valid: u64, after: u64) -> u64
+// Of the jobs `beside`, which have an arc to or from i, those that R4 to R6 keep apart from it, since i or they are valid.
+pub fn kept_apart(i: usize, valid: u64, beside: u64) -> u64
     requires { ⌜ i < jobLimit ⌝ }
-    ensures { λ r. ⌜ KeptApart i valid after r ⌝ }
+    ensures { λ r. ⌜ KeptApart i valid beside r ⌝ }
 {
     if ground_sets::has(valid, i) {
-        return after;
+        return beside;
     }
-    ground_sets::intersection(after, valid)
+    ground_sets::intersection(beside, valid)
 }
 
 // R3: the jobs to test, which may have no arc to i though they would end too late after it.

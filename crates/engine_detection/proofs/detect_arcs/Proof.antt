@@ -11,9 +11,9 @@ returns c = sound-none (AllLive _ _ _ _) _ _
 
 returns-2 : tie.Need-returns-2
 returns-2 c =
-    let partners = c .before .before .before in
-    let moved = partners .before .before .intersection .ensures in
-    all-detected _ _ _ _ _ _ _ _ (rw moved (subset-intersection _ _ .1)) (partners .partners .ensures) _ _ (c .detect-each .ensures)
+    let chosen = c .before .before .before in
+    let moved = chosen .before .before .intersection .ensures in
+    all-detected _ _ _ _ _ _ _ _ (rw moved (subset-intersection _ _ .1)) (chosen .candidates .ensures) _ _ (c .detect-each .ensures)
 
 pub detect-arcs-spec : {M : Type 1} → statement M
 detect-arcs-spec =

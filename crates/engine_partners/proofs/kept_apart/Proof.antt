@@ -10,7 +10,7 @@ use Rattle.engine_partners.proofs.kept_apart.Tie as tie
 
 returns : tie.Need-returns
 returns c =
-    record { width = c .before .before .fits .after .fits; member = λ k e. (e, inl (sym (c .before .has .ensures) ∙ c .if1 .taken)) }
+    record { width = c .before .before .fits .beside .fits; member = λ k e. (e, inl (sym (c .before .has .ensures) ∙ c .if1 .taken)) }
 
 returns-2 : tie.Need-returns-2
 returns-2 c =
@@ -18,8 +18,8 @@ returns-2 c =
     record {
       width = c .intersection .ok;
       member = λ k e.
-          let both = sym (ap (λ w. bit w k) (c .intersection .ensures) ∙ bit-intersection (a .after) (a .valid) k) ∙ e in
-          let (arc, valid) = and-parts (bit (a .after) k) (bit (a .valid) k) both in
+          let both = sym (ap (λ w. bit w k) (c .intersection .ensures) ∙ bit-intersection (a .beside) (a .valid) k) ∙ e in
+          let (arc, valid) = and-parts (bit (a .beside) k) (bit (a .valid) k) both in
           (arc, inr valid);
     }
 
