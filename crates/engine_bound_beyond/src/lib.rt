@@ -32,7 +32,7 @@ pub fn last(set: u64, opposite: &[u64; Board::JOBS]) -> usize
 }
 
 // The jobs of the set but k that are not in k's word.
-fn standing_apart(set: u64, k: usize, word: u64) -> u64
+pub fn standing_apart(set: u64, k: usize, word: u64) -> u64
     requires { ⌜ k < jobLimit ⌝ }
     ensures { λ r. ⌜ Apart set k word r ⌝ }
 {

@@ -15,14 +15,14 @@ ghost use Rattle.paper_board.specs.Paper.Values as paper;
 ghost use Rattle.engine_sums.specs.Sums as sums;
 
 // The jobs still in play, the least of their bounds, and the sum of their lengths.
-struct Play {
-    set: u64,
-    least: i32,
-    total: i32,
+pub struct Play {
+    pub set: u64,
+    pub least: i32,
+    pub total: i32,
 }
 
 // All jobs of a set. Where there are none, `least` says nothing.
-fn whole(side: Side, times: &[i32; Board::JOBS], lengths: &[i32; Board::JOBS], set: u64) -> Play
+pub fn whole(side: Side, times: &[i32; Board::JOBS], lengths: &[i32; Board::JOBS], set: u64) -> Play
     requires { ⌜ sums.Times (now times) ⌝ }
     requires { ⌜ sums.Lengths (now lengths) ⌝ }
     ensures { λ r. ⌜ r .set ≡ set ⌝ }

@@ -4,6 +4,9 @@ use engine_leading::Leading;
 use engine_leading::lasting;
 use engine_leading::leading_to;
 use engine_leading::unknown;
+use engine_order::Order;
+use engine_order::asked;
+use engine_order::reorder;
 use engine_sums::is_lower;
 use engine_windows::Window;
 use paper_board::Board;
@@ -128,12 +131,14 @@ pub fn push<'a>(
     beyond: &'a [u64; Board::JOBS],
     opposite: &'a [u64; Board::JOBS],
     valid: u64,
+    order: &mut [u64; Order::WORDS],
 ) -> Pushed
     requires { ⌜ Times (now times) × Times (now fixed) × Lengths (now lengths) ⌝ }
     ensures { λ r. ⌜ Times (now (times .exit)) ⌝ }
     ensures { λ r. ⌜ windows.Raises (sideOf side) (windows.Reads (sideOf side) (now (fixed .entry)) (now (lengths .entry)) (now (beyond .entry)) valid) (now (times .entry)) (now (times .exit)) ⌝ }
     ensures { λ r. ⌜ windows.Shuts (sideOf side) (windows.Reads (sideOf side) (now (fixed .entry)) (now (lengths .entry)) (now (beyond .entry)) valid) (now (times .entry)) (r .stuck) ⌝ }
 {
+    asked(order, side, set, valid, times);
     let mut all = unmoved();
     let mut known = unknown();
     let mut left = set;
@@ -141,9 +146,22 @@ pub fn push<'a>(
         let taken = ground_walks::take_lowest(left);
         left = taken.rest;
         let job = taken.member;
-        let leading = leading_to(side, job, known, times, lengths, beyond, opposite, valid);
+        let leading = leading_to(
+            side,
+            job,
+            known,
+            times,
+            lengths,
+            beyond,
+            opposite,
+            valid,
+            order,
+        );
         let step = push_job(side, job, leading, times, fixed, lengths, opposite, valid);
         known = lasting(leading, job);
+        if step.moved != 0 {
+            reorder(order, side, job, times);
+        }
         all = both(all, step);
         if ground_sets::intersection(all.stuck, valid) != 0 {
             break;

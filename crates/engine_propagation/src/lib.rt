@@ -16,6 +16,7 @@ use engine_ends::Ends;
 use engine_exclusion::excluded;
 use engine_exclusion::unfit;
 use engine_frontier::frontier;
+use engine_order::Order;
 use engine_precedence::push;
 use engine_transitivity::join_arcs;
 use paper_board::Board;
@@ -117,6 +118,7 @@ fn turn_side<'a>(
     beyond: &'a [u64; Board::JOBS],
     opposite: &'a [u64; Board::JOBS],
     valid: u64,
+    order: &mut [u64; Order::WORDS],
     left: Agenda,
 ) -> Turned
     requires { ⌜ Times (now times) × Times (now fixed) × Lengths (now lengths) ⌝ }
@@ -125,7 +127,17 @@ fn turn_side<'a>(
     ensures { λ r. ⌜ Shuts (sideOf side) (Reads (sideOf side) (now (fixed .entry)) (now (lengths .entry)) (now (beyond .entry)) valid) (now (times .entry)) (r .stuck) ⌝ }
 {
     let set = frontier(due_on(left, side), valid, beyond, opposite);
-    let step = push(side, set, times, fixed, lengths, beyond, opposite, valid);
+    let step = push(
+        side,
+        set,
+        times,
+        fixed,
+        lengths,
+        beyond,
+        opposite,
+        valid,
+        order,
+    );
     Turned {
         left: pushed(left, side, set, step),
         stuck: step.stuck,
@@ -140,6 +152,8 @@ fn turn_windows<'a>(
     before: &'a [u64; Board::JOBS],
     after: &'a [u64; Board::JOBS],
     valid: u64,
+    early_order: &mut [u64; Order::WORDS],
+    late_order: &mut [u64; Order::WORDS],
     left: Agenda,
 ) -> Turned
     requires { ⌜ Times (now earliest) × Times (now latest) × Lengths (now lengths) ⌝ }
@@ -156,6 +170,7 @@ fn turn_windows<'a>(
             before,
             after,
             valid,
+            early_order,
             left,
         ),
         Side::Late => turn_side(
@@ -166,6 +181,7 @@ fn turn_windows<'a>(
             after,
             before,
             valid,
+            late_order,
             left,
         ),
     }
@@ -181,6 +197,8 @@ fn turn(
     lengths: &[i32; Board::JOBS],
     live: u64,
     valid: u64,
+    early_order: &mut [u64; Order::WORDS],
+    late_order: &mut [u64; Order::WORDS],
     left: Agenda,
 ) -> Turned
     requires { ⌜ Times (now earliest) × Times (now latest) × Lengths (now lengths) ⌝ }
@@ -194,7 +212,17 @@ fn turn(
     if ground_sets::union(left.raised, left.lowered) != 0 {
         return turn_order(before, after, earliest, latest, lengths, live, valid, left);
     }
-    turn_windows(earliest, latest, lengths, before, after, valid, left)
+    turn_windows(
+        earliest,
+        latest,
+        lengths,
+        before,
+        after,
+        valid,
+        early_order,
+        late_order,
+        left,
+    )
 }
 
 // Turn after turn, until nothing is left to do, or a valid job can't stay: then there is no board. Gives the jobs that can't stay, since they no
@@ -216,11 +244,24 @@ pub fn propagate(
     let mut left = due;
     let mut rest = live;
     let mut stuck = 0;
+    let mut early_order = [0; Order::WORDS];
+    let mut late_order = [0; Order::WORDS];
     for _ in 0..TURNS {
         if is_done(left) || ground_sets::intersection(stuck, valid) != 0 {
             break;
         }
-        let next = turn(earliest, latest, before, after, lengths, rest, valid, left);
+        let next = turn(
+            earliest,
+            latest,
+            before,
+            after,
+            lengths,
+            rest,
+            valid,
+            &mut early_order,
+            &mut late_order,
+            left,
+        );
         stuck = ground_sets::union(stuck, next.stuck);
         rest = ground_sets::difference(rest, next.stuck);
         left = among(next.left, rest);

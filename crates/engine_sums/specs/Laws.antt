@@ -8,7 +8,7 @@ use mathlib.Core.Option.{none, some}
 use Prim.Native.Nat.{ℕ, _^_, _<_}
 use native.Mathlib.Omega.{arith}
 use lib.IntN.{ℤ, pos, negℤ, _+ℤ_}
-use lib.Signed.{leZ, ltZ, _≤ℤ_}
+use lib.Signed.{leZ, ltZ, _≤ℤ_, _<ℤ_}
 use mir.Syntax.{w32}
 use mir.Val.{SFits, toZ, ofZ}
 use mir.ValLaws.{toZ-ofZ}
@@ -113,6 +113,11 @@ part-sum {w = w} inside c some-job =
       is = cc (h .is, c .loaded);
     }
 
+-- no number that has the property is above z, and z itself has it where it is above `low`
+pub none-above : {P : ℤ → Type 0} (low z : ℤ) → ((y : ℤ) → P y → y ≤ℤ z) → (low <ℤ z → P z) → Exceeds P low (over low z)
+none-above {P} low z under at =
+    by-test (Exceeds P low) (ltZ low z) (some z) none (λ e. ((at (omega whole), under), omega whole)) λ e y q. omega (whole, under y q)
+
 -- ---- the jobs in play
 
 -- all jobs of the set with a bound as great as that of job x are among `left`
@@ -149,21 +154,17 @@ module _ {s : Side} {times lengths : List ℤ} {set : ℕ} where
   -- once no job is in play, no sum is above the best
   pub none-in-play : {left : ℕ} {low best : ℤ} → left ≡ 0 → InPlay s times lengths set left best → Best s times lengths set low best
       → Exceeds (Sum s times lengths set) low (over low best)
-  none-in-play {left} {low} {best} empty p r =
-      by-test (Exceeds (Sum s times lengths set) low) (ltZ low best) (some best) none (λ e. ((greatest e r, under), omega whole)) λ e z q. omega (whole, under z q)
+  none-in-play {left} {low} {best} empty p r = none-above low best (λ z q. closed z q (p .covered z q)) (greatest r)
     where
-      greatest : ltZ low best ≡ true → Best s times lengths set low best → Sum s times lengths set best
-      greatest e (inl same) = absurd (omega (whole, same))
-      greatest e (inr q) = q
+      greatest : Best s times lengths set low best → low <ℤ best → Sum s times lengths set best
+      greatest (inl same) more = absurd (omega (whole, same))
+      greatest (inr q) more = q
 
       closed : (z : ℤ) (q : Sum s times lengths set z) → (z ≤ℤ best) ⊎ Open s times set left (q .first) → z ≤ℤ best
       closed z q (inl l) = l
       closed z q (inr on) =
           let x = q .first in
           absurd (refuted (ap (λ w. bit w x) empty ∙ bit-zero x) (on x (q .inside x (q .member)) (omega whole)))
-
-      under : (z : ℤ) → Sum s times lengths set z → z ≤ℤ best
-      under z q = closed z q (p .covered z q)
 
   -- a greater best covers no less
   raised : {left : ℕ} {best top : ℤ} → best ≤ℤ top → InPlay s times lengths set left best → InPlay s times lengths set left top

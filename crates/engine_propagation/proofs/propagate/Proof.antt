@@ -8,7 +8,7 @@ use Rattle.engine_propagation.proofs.propagate.Statement.{statement}
 use Rattle.engine_propagation.proofs.propagate.Tie as tie
 
 abbrev Inv-loop : tie.InvT-loop
-Inv-loop earliest₀ latest₀ before₀ after₀ lengths live valid left₀ rest₀ stuck₀ counter₀ earliest latest before after left rest stuck counter =
+Inv-loop earliest₀ latest₀ before₀ after₀ lengths live valid left₀ rest₀ stuck₀ early-order₀ late-order₀ counter₀ earliest latest before after left rest stuck early-order late-order counter =
     record {
       counted : counter ≤ 65536;
       early : Times earliest;
@@ -17,7 +17,7 @@ Inv-loop earliest₀ latest₀ before₀ after₀ lengths live valid left₀ res
     }
 
 abbrev μ-loop : tie.MeasureT-loop
-μ-loop earliest₀ latest₀ before₀ after₀ lengths live valid left₀ rest₀ stuck₀ counter₀ earliest latest before after left rest stuck counter = 65536 - counter
+μ-loop earliest₀ latest₀ before₀ after₀ lengths live valid left₀ rest₀ stuck₀ early-order₀ late-order₀ counter₀ earliest latest before after left rest stuck early-order late-order counter = 65536 - counter
 
 loop-holds : tie.Need-loop-holds Inv-loop μ-loop
 loop-holds c =
@@ -30,18 +30,21 @@ loop-holds c =
 
 turn-requires : tie.Need-turn-requires Inv-loop μ-loop
 turn-requires c κs =
-    let at = c .before .before .before .before .before .before .before .before .before in
+    let at = c .before .before .before .before .before .before .before .before .before .before .before in
     (at .loop .inv .early, at .loop .inv .late, at .before .pre .2)
+
+-- from a turn's end to its begin
+abbrev begun-of : tie.After-among Inv-loop μ-loop → tie.In-loop Inv-loop μ-loop
+begun-of c = c .before .before .before .before .before .before .before .before .before .before .before .before .before .before
 
 loop-again : tie.Need-loop-again Inv-loop μ-loop
 loop-again c =
     let rest = c .before in
     let ran = rest .before .before in
-    let begun = ran .before .before .before .before .before .before .before .before .before in
-    let inv = begun .before .loop .inv in
+    let inv = begun-of c .before .loop .inv in
     let ((early, late), (onward, shut)) = ran .turn .ensures in
     record {
-      counted = omega (arith, begun .loop-test .taken);
+      counted = omega (arith, begun-of c .loop-test .taken);
       early = early;
       late = late;
       run = run-on _ _ _ _ _ _ _ _ _ _ _ _ _ (inv .run) _ _ _ _ _ _ _ onward shut (rest .difference .ensures) (rest .before .union .ensures);
@@ -70,8 +73,8 @@ propagate-spec =
     (λ c κs. search needs)
     (λ c κs. search needs)
     (λ c κs. search needs)
-    (λ c. search needs)
-    (λ c. omega arith)
+    (λ c. search (needs, begun-of c .loop-test .taken))
+    (λ c. omega (arith, begun-of c .loop-test .taken))
     loop-again
     returns
     returns-2)

@@ -1,0 +1,78 @@
+-- `engine_leading::bound_left` meets its contract: what the last one alone leaves, or the greatest sum. Assumes nothing.
+use borrow.Author.Needs.{needs}
+use lib.IntN.{pos}
+use lib.ListN.{getD}
+use mir.Syntax.{w32}
+use mir.Val.{toZ, ofZ}
+use mir.ValLaws.{toZ-ofZ}
+use Rattle.ground_arithmetic.specs.Time.{Moderate}
+use Rattle.paper_board.specs.Paper.Values.{sideOf}
+use Rattle.paper_board.specs.Tests.Ranges.{time-moderate}
+use Rattle.engine_sums.specs.Sums.{boundOf}
+use Rattle.engine_sums.specs.Laws.{time-fits}
+use Rattle.engine_leading.specs.Leading.{beyond-pushes, alone-pushes, sums-push}
+use Rattle.engine_leading.proofs.bound_left.Statement.{statement}
+use Rattle.engine_leading.proofs.bound_left.Tie as tie
+
+-- the job's own bound as a floor
+floor-moderate : (start : tie.Start) → Moderate (toZ w32 (ofZ w32 (getD (start .args .times .now) (start .args .job) (pos 0))))
+floor-moderate start =
+    let t = start .pre .2 .time (start .args .job) in
+    simp (toZ-ofZ, time-fits t) (time-moderate t)
+
+returns : tie.Need-returns
+returns c =
+    let start = c .before .before .before in
+    let a = start .args in
+    let side = sideOf (a .side) in
+    beyond-pushes side (a .times .now) (a .lengths .now) (a .set) (a .job) (a .beyond .now) (a .valid) (start .pre .4) (boundOf side (c .bound-beyond .result)) (c .bound-beyond .ensures)
+
+single-bound-requires : tie.Need-single-bound-requires
+single-bound-requires c κs =
+    let found = c .before .before .before .before in
+    let start = found .before .before .before in
+    let (_, _, hours, work, _) = start .pre in
+    (hours, work, found .last .ensures .0, floor-moderate start)
+
+returns-2 : tie.Need-returns-2
+returns-2 c =
+    let found = c .before .before .before .before .before in
+    let start = found .before .before .before in
+    let a = start .args in
+    let told = simp (toZ-ofZ, time-fits (start .pre .2 .time (a .job))) at (c .single-bound .ensures) in
+    rw told (alone-pushes (sideOf (a .side)) (a .times .now) (a .lengths .now) (a .set) (a .job) (found .last .result) (found .last .ensures .0) (found .last .ensures .1))
+
+ordered-bound-requires : tie.Need-ordered-bound-requires
+ordered-bound-requires c κs =
+    let start = c .before .before .before .before .before .before .before .before in
+    let (_, _, hours, work, _) = start .pre in
+    (hours, work, floor-moderate start)
+
+returns-3 : tie.Need-returns-3
+returns-3 c =
+    let start = c .before .before .before .before .before .before .before .before .before in
+    let a = start .args in
+    let told = simp (toZ-ofZ, time-fits (start .pre .2 .time (a .job))) at (c .ordered-bound .ensures) in
+    let side = sideOf (a .side) in
+    sums-push side (a .times .now) (a .lengths .now) (a .set) (a .job) (boundOf side (c .ordered-bound .result)) told
+
+pub bound-left-spec : {M : Type 1} → statement M
+bound-left-spec =
+    tie.close
+    (tie.spec
+    (λ c. search needs)
+    (λ c κs. search needs)
+    returns
+    (λ c κs. search needs)
+    (λ c. search needs)
+    (λ c. search needs)
+    (λ c κs. search needs)
+    (λ c. search needs)
+    (λ c. search needs)
+    single-bound-requires
+    returns-2
+    (λ c. search needs)
+    (λ c. search needs)
+    (λ c κs. search needs)
+    ordered-bound-requires
+    returns-3)
