@@ -22,8 +22,8 @@ use Rattle.engine_sums.specs.Sums.{boundAt, lengthAt, Times, Lengths, load, Sum
 use Rattle.engine_sums.specs.Laws.{load-range}
 
 -- no sum of the set is above the end
-abbrev pub Above : Side → List ℤ → List ℤ → ℕ → ℤ → Type 0
-Above s times lengths set end = (z : ℤ) → Sum s times lengths set z → z ≤ℤ end
+abbrev pub NoneAbove : Side → List ℤ → List ℤ → ℕ → ℤ → Type 0
+NoneAbove s times lengths set end = (z : ℤ) → Sum s times lengths set z → z ≤ℤ end
 
 -- The jobs of the set that are not `left` stand one after the other: x, no greater than the bound of each of some of these, with their
 -- lengths is no more than the end.
@@ -34,17 +34,17 @@ pub record Sequenced (s : Side) (times lengths : List ℤ) (set left : ℕ) (end
       → (x +ℤ total jobLimit S (lengthAt lengths)) ≤ℤ end
 
 -- an end, to which the lengths of what is left may still be added
-pub record Ends (lengths : List ℤ) (left : ℕ) (end : ℤ) : Type 0 where
+pub record EndInRange (lengths : List ℤ) (left : ℕ) (end : ℤ) : Type 0 where
   pub low : firstMinute ≤ℤ end
   pub high : (end +ℤ load lengths left) ≤ℤ pos 1140000
 
 module _ {lengths : List ℤ} (work : Lengths lengths) where
-  pub none-ends : (set : ℕ) → Ends lengths set firstMinute
-  none-ends set =
+  pub none-in-range : (set : ℕ) → EndInRange lengths set firstMinute
+  none-in-range set =
       let (_, most) = load-range work (bit set) in
       record { low = omega whole; high = omega (whole, plus firstMinute (load lengths set)) }
 
-  pub end-moderate : {left : ℕ} {end : ℤ} → Ends lengths left end → Moderate end
+  pub end-moderate : {left : ℕ} {end : ℤ} → EndInRange lengths left end → Moderate end
   end-moderate {left} {end} h =
       let (least, _) = load-range work (bit left) in
       (omega (whole, h .low), omega (whole, h .high, plus end (load lengths left)))
@@ -57,7 +57,7 @@ module _ {s : Side} {times lengths : List ℤ} where
   none-sequenced set fits =
       record { fits = fits; under = λ S x j e h. let (member, out, _) = h j e in absurd (refuted out member) }
 
-  pub all-sequenced : {set left : ℕ} {end : ℤ} → Sequenced s times lengths set left end → left ≡ 0 → Above s times lengths set end
+  pub all-sequenced : {set left : ℕ} {end : ℤ} → Sequenced s times lengths set left end → left ≡ 0 → NoneAbove s times lengths set end
   all-sequenced {set} {left} {end} p empty z q =
       let all = p .under (q .set) (boundAt s times (q .first)) (q .first) (q .member)
       λ k e. (q .inside k e, ap (λ w. bit w k) empty ∙ bit-zero k, q .least k e) in
@@ -86,8 +86,8 @@ module _ (s : Side) {times lengths : List ℤ} (hours : Times times) (work : Len
       total-member jobLimit (bit left) (bit (without jobLimit left k)) (lengthAt lengths) k width member (without-self jobLimit left k fits width)
       (without-other jobLimit left k fits width)
 
-  pub next-ends : Ends lengths left end → Ends lengths (without jobLimit left k) (endWith s times lengths k end)
-  next-ends h =
+  pub append-in-range : EndInRange lengths left end → EndInRange lengths (without jobLimit left k) (endWith s times lengths k end)
+  append-in-range h =
       let length = lengthAt lengths k in
       let b = boundAt s times k in
       let less = load lengths (without jobLimit left k) in
@@ -100,8 +100,8 @@ module _ (s : Side) {times lengths : List ℤ} (hours : Times times) (work : Len
             (λ e. omega (whole, lighter, h .high, plus end (load lengths left), plus end length, plus (end +ℤ length) less, plus length less));
       }
 
-  pub next-sequenced : (set : ℕ) → Sequenced s times lengths set left end → Sequenced s times lengths set (without jobLimit left k) (endWith s times lengths k end)
-  next-sequenced set p = record { fits = without-lt jobLimit left k fits; under = λ S x j e h. with-or-without S x j e h (S k) refl }
+  pub append-sequenced : (set : ℕ) → Sequenced s times lengths set left end → Sequenced s times lengths set (without jobLimit left k) (endWith s times lengths k end)
+  append-sequenced set p = record { fits = without-lt jobLimit left k fits; under = λ S x j e h. with-or-without S x j e h (S k) refl }
     where
       length : ℤ
       length = lengthAt lengths k

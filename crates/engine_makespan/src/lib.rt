@@ -10,7 +10,7 @@ ghost use Prim.Native.Nat.{ℕ, _<_};
 ghost use Rattle.paper_board.specs.Paper.Limits.{jobLimit};
 ghost use Rattle.paper_board.specs.Paper.Values.{sideOf};
 ghost use Rattle.engine_sums.specs.Sums.{Times, Lengths};
-ghost use Rattle.engine_makespan.specs.Makespan.{Ends, Sequenced, Above};
+ghost use Rattle.engine_makespan.specs.Makespan.{EndInRange, Sequenced, NoneAbove};
 
 // The jobs of a set that are still to come, where the last run of jobs without a pause begins, and where it ends.
 pub struct Sequence {
@@ -19,16 +19,16 @@ pub struct Sequence {
     pub end: i32,
 }
 
-// The next job put behind the others, where it is still to come.
-fn then(
+// Job k put behind the others, where it is still to come.
+fn append(
     side: Side,
     times: &[i32; Board::JOBS],
     lengths: &[i32; Board::JOBS],
     k: usize,
     earlier: Sequence,
 ) -> Sequence
-    requires { ⌜ Times (now times) × Lengths (now lengths) × (k < jobLimit) × Ends (now lengths) (earlier .left) (earlier .end) ⌝ }
-    ensures { λ r. ⌜ Ends (now (lengths .entry)) (r .left) (r .end) ⌝ }
+    requires { ⌜ Times (now times) × Lengths (now lengths) × (k < jobLimit) × EndInRange (now lengths) (earlier .left) (earlier .end) ⌝ }
+    ensures { λ r. ⌜ EndInRange (now (lengths .entry)) (r .left) (r .end) ⌝ }
     ensures { λ r. ⌜ ((set : ℕ) → Sequenced (sideOf side) (now (times .entry)) (now (lengths .entry)) set (earlier .left) (earlier .end) → Sequenced (sideOf side) (now (times .entry)) (now (lengths .entry)) set (r .left) (r .end)) ⌝ }
 {
     let low = bound(side, times, k);
@@ -50,15 +50,15 @@ fn then(
 }
 
 // Eight jobs more, whose numbers are the bytes of a word.
-fn then_eight(
+fn append_eight(
     side: Side,
     times: &[i32; Board::JOBS],
     lengths: &[i32; Board::JOBS],
     jobs: u64,
     earlier: Sequence,
 ) -> Sequence
-    requires { ⌜ Times (now times) × Lengths (now lengths) × Ends (now lengths) (earlier .left) (earlier .end) ⌝ }
-    ensures { λ r. ⌜ Ends (now (lengths .entry)) (r .left) (r .end) ⌝ }
+    requires { ⌜ Times (now times) × Lengths (now lengths) × EndInRange (now lengths) (earlier .left) (earlier .end) ⌝ }
+    ensures { λ r. ⌜ EndInRange (now (lengths .entry)) (r .left) (r .end) ⌝ }
     ensures { λ r. ⌜ ((set : ℕ) → Sequenced (sideOf side) (now (times .entry)) (now (lengths .entry)) set (earlier .left) (earlier .end) → Sequenced (sideOf side) (now (times .entry)) (now (lengths .entry)) set (r .left) (r .end)) ⌝ }
 {
     let mut sequence = earlier;
@@ -66,7 +66,7 @@ fn then_eight(
     for _ in 0..Order::BYTES {
         let k = (next % 64) as usize;
         next = next >> 8;
-        sequence = then(side, times, lengths, k, sequence);
+        sequence = append(side, times, lengths, k, sequence);
     }
     sequence
 }
@@ -80,8 +80,8 @@ pub fn in_order(
     order: Order,
 ) -> Sequence
     requires { ⌜ Times (now times) × Lengths (now lengths) ⌝ }
-    ensures { λ r. ⌜ Ends (now (lengths .entry)) (r .left) (r .end) ⌝ }
-    ensures { λ r. ⌜ (r .left ≡ 0 → Above (sideOf side) (now (times .entry)) (now (lengths .entry)) set (r .end)) ⌝ }
+    ensures { λ r. ⌜ EndInRange (now (lengths .entry)) (r .left) (r .end) ⌝ }
+    ensures { λ r. ⌜ (r .left ≡ 0 → NoneAbove (sideOf side) (now (times .entry)) (now (lengths .entry)) set (r .end)) ⌝ }
 {
     let mut sequence = Sequence {
         left: set,
@@ -94,7 +94,7 @@ pub fn in_order(
             break;
         }
         let jobs = eight_from(order, rank);
-        sequence = then_eight(side, times, lengths, jobs, sequence);
+        sequence = append_eight(side, times, lengths, jobs, sequence);
     }
     sequence
 }

@@ -15,7 +15,7 @@ ghost use Rattle.ground_arithmetic.specs.Time.{Moderate};
 ghost use Rattle.paper_board.specs.Paper.Values as paper;
 ghost use Rattle.paper_board.specs.Tests.Sets.{Subset};
 ghost use Rattle.engine_sums.specs.Sums as sums;
-ghost use Rattle.engine_makespan.specs.Makespan.{Above};
+ghost use Rattle.engine_makespan.specs.Makespan.{NoneAbove};
 
 // The jobs of a set that start at `start` or later.
 fn starting_from(side: Side, times: &[i32; Board::JOBS], set: u64, start: i32) -> u64
@@ -46,7 +46,7 @@ fn decides(
     start: i32,
     end: i32,
 ) -> bool
-    requires { ⌜ sums.Times (now times) × sums.Lengths (now lengths) × Above (paper.sideOf side) (now times) (now lengths) set end ⌝ }
+    requires { ⌜ sums.Times (now times) × sums.Lengths (now lengths) × NoneAbove (paper.sideOf side) (now times) (now lengths) set end ⌝ }
     ensures { λ r. ⌜ (r ≡ true → sums.Exceeds (sums.Sum (paper.sideOf side) (now (times .entry)) (now (lengths .entry)) set) low (sums.over low end)) ⌝ }
 {
     if end <= low {

@@ -3,7 +3,7 @@ use borrow.Author.Needs.{needs}
 use Prim.Native.Nat.{_≤_, _-_}
 use native.Mathlib.Omega.{arith}
 use Rattle.paper_board.specs.Paper.Values.{sideOf}
-use Rattle.engine_makespan.specs.Makespan.{Ends, Sequenced, none-ends, none-sequenced, all-sequenced}
+use Rattle.engine_makespan.specs.Makespan.{EndInRange, Sequenced, none-in-range, none-sequenced, all-sequenced}
 use Rattle.engine_makespan.proofs.in_order.Statement.{statement}
 use Rattle.engine_makespan.proofs.in_order.Tie as tie
 
@@ -11,7 +11,7 @@ abbrev Inv-loop : tie.InvT-loop
 Inv-loop side times lengths set order sequence₀ n₀ sequence n =
     record {
       counted : n ≤ 8;
-      ends : Ends lengths (sequence .left) (sequence .end);
+      ends : EndInRange lengths (sequence .left) (sequence .end);
       sequenced : Sequenced (sideOf side) times lengths set (sequence .left) (sequence .end);
     }
 
@@ -19,10 +19,10 @@ abbrev μ-loop : tie.MeasureT-loop
 μ-loop side times lengths set order sequence₀ n₀ sequence n = 8 - n
 
 loop-holds : tie.Need-loop-holds Inv-loop μ-loop
-loop-holds c = record { counted = omega arith; ends = none-ends (c .pre .1) _; sequenced = none-sequenced _ (c .fits .set .fits) }
+loop-holds c = record { counted = omega arith; ends = none-in-range (c .pre .1) _; sequenced = none-sequenced _ (c .fits .set .fits) }
 
-then-eight-requires : tie.Need-then-eight-requires Inv-loop μ-loop
-then-eight-requires c κs =
+append-eight-requires : tie.Need-append-eight-requires Inv-loop μ-loop
+append-eight-requires c κs =
     let at = c .before .before .before .before .before .before in
     let (hours, work) = at .before .pre in
     (hours, work, at .loop .inv .ends)
@@ -30,7 +30,7 @@ then-eight-requires c κs =
 loop-again : tie.Need-loop-again Inv-loop μ-loop
 loop-again c =
     let begun = c .before .before .before .before .before .before in
-    let (ends, onward) = c .then-eight .ensures in
+    let (ends, onward) = c .append-eight .ensures in
     record { counted = omega (arith, begun .loop-test .taken); ends = ends; sequenced = onward _ (begun .before .loop .inv .sequenced) }
 
 returns : tie.Need-returns Inv-loop μ-loop
@@ -48,7 +48,7 @@ in-order-spec =
     loop-holds
     (λ c. search needs)
     (λ c κs. search needs)
-    then-eight-requires
+    append-eight-requires
     (λ c. search needs)
     (λ c. search needs)
     loop-again

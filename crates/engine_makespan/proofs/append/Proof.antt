@@ -1,4 +1,4 @@
--- `engine_makespan::then` meets its contract: a job that is left goes behind the others, and no other job changes anything. Assumes nothing.
+-- `engine_makespan::append` meets its contract: a job that is left goes behind the others, and no other job changes anything. Assumes nothing.
 use borrow.Author.Needs.{needs}
 use borrow.Author.Tests.{not-false}
 use mathlib.Core.Path.{_≡_, sym, _∙_}
@@ -13,9 +13,9 @@ use Rattle.paper_board.specs.Paper.Limits.{jobLimit}
 use Rattle.paper_board.specs.Paper.Values.{sideOf}
 use Rattle.engine_sums.specs.Sums.{boundAt}
 use Rattle.engine_sums.specs.Laws.{length-fits, length-moderate, bound-moderate}
-use Rattle.engine_makespan.specs.Makespan.{end-moderate, greater-moderate, next-ends, next-sequenced}
-use Rattle.engine_makespan.proofs.then.Statement.{statement}
-use Rattle.engine_makespan.proofs.then.Tie as tie
+use Rattle.engine_makespan.specs.Makespan.{end-moderate, greater-moderate, append-in-range, append-sequenced}
+use Rattle.engine_makespan.proofs.append.Statement.{statement}
+use Rattle.engine_makespan.proofs.append.Tie as tie
 
 -- the bound, the end so far, and the later of the two, as the machine reads them back from their bits
 low-is : (c : tie.After-bound) → let a = c .before .args in
@@ -53,12 +53,12 @@ returns-2 c =
     let end = toZ-ofZ w32 _ (record { sfits = added .sum .ok })
     ∙ (rw (after-is (added .before .before)) at (simp (toZ-ofZ, length-fits work (a .k)) at (added .sum .ensures))) in
     rw (c .without .ensures, end) (
-      next-ends (sideOf (a .side)) hours work (a .earlier .end) fits width member ends,
-      λ set. next-sequenced (sideOf (a .side)) hours work (a .earlier .end) fits width member set,
+      append-in-range (sideOf (a .side)) hours work (a .earlier .end) fits width member ends,
+      λ set. append-sequenced (sideOf (a .side)) hours work (a .earlier .end) fits width member set,
     )
 
-pub then-spec : {M : Type 1} → statement M
-then-spec =
+pub append-spec : {M : Type 1} → statement M
+append-spec =
     tie.close
     (tie.spec
     (λ c κs. search needs)
