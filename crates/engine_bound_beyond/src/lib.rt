@@ -41,7 +41,8 @@ pub fn standing_apart(set: u64, k: usize, word: u64) -> u64
 
 // The bound that a set of jobs, all beyond `job` on one side, leaves to it, where it is above its own. Most of them lie beyond a last
 // one, whose bound has room for them already: where none stands apart it alone decides, and where some do they seldom push a job on a board
-// where nothing is left to move. The search asks that first (`few`); propagation, whose jobs mostly do move, takes the sums at once.
+// where nothing is left to move. The search asks that first (`few`); propagation, whose jobs mostly do move, takes the sums at once, and
+// goes by an order of the jobs instead, where it has one (`engine_leading`).
 fn bound_of<'a>(
     side: Side,
     job: usize,

@@ -3,20 +3,15 @@ use mathlib.Core.Path.{_≡_, subst}
 use mathlib.Core.Bool.{true, false}
 use mathlib.Core.List.{List}
 use mathlib.Core.Logic.{_≢_}
-use mathlib.Core.Option.{Option, none, some}
-use Prim.Native.Nat.{ℕ, _<_}
+use Prim.Native.Nat.{ℕ}
 use lib.IntN.{ℤ, pos}
 use lib.ListN.{getD}
-use lib.Signed.{ltZ}
 use Rattle.ground_sets.specs.Bit.{bit}
-use Rattle.ground_arithmetic.specs.Bools.{refuted, by-test}
-use Rattle.ground_arithmetic.specs.Linear.{whole}
+use Rattle.ground_arithmetic.specs.Bools.{refuted}
 use Rattle.paper_board.specs.Paper.View.{Side}
-use Rattle.paper_board.specs.Paper.Limits.{jobLimit}
 use Rattle.paper_board.specs.Paper.Values.{turned}
-use Rattle.engine_sums.specs.Sums.{boundAt, endAt, Sum, Exceeds, over, Pushes}
-use Rattle.engine_sums.specs.Single.{single}
-use Rattle.engine_bound_beyond.specs.BoundBeyond.{pushing, BoundBeyond}
+use Rattle.engine_sums.specs.Sums.{Sum}
+use Rattle.engine_bound_beyond.specs.BoundBeyond.{pushing}
 use Rattle.engine_leading.specs.declared.Leading.{Leading}
 
 -- where the set has members, the time is a sum of them
@@ -27,23 +22,6 @@ Leaves s times lengths l = l .set ≢ 0 → Sum s times lengths (l .set) (turned
 abbrev pub LeadsTo : Leading → List ℕ → ℕ → ℕ → Type 0
 LeadsTo l beyond valids j = l .set ≢ 0 → l .set ≡ pushing beyond valids j
 
--- the jobs of a set leave a job what one of them does, what is said of those beyond it, or their greatest sum, where it is above its own bound
-module _ (s : Side) (times lengths : List ℤ) (w j : ℕ) where
-  pub alone-pushes : (k : ℕ) → k < jobLimit → bit w k ≡ true → Pushes s times lengths w j (over (boundAt s times j) (endAt s times lengths k))
-  alone-pushes k place member =
-      let end = endAt s times lengths k in
-      by-test (Pushes s times lengths w j) (ltZ (boundAt s times j) end) (some end) none
-      (λ e. (single s times lengths w k place member, omega whole)) (λ e. tt)
-
-  pub beyond-pushes : (beyond : List ℕ) (valids : ℕ) → w ≡ pushing beyond valids j → (o : Option ℤ) → BoundBeyond s times lengths beyond valids j o
-      → Pushes s times lengths w j o
-  beyond-pushes beyond valids is none h = tt
-  beyond-pushes beyond valids is (some z) h = rw is h
-
-  pub sums-push : (o : Option ℤ) → Exceeds (Sum s times lengths w) (boundAt s times j) o → Pushes s times lengths w j o
-  sums-push none h = tt
-  sums-push (some z) ((sum, _), above) = (sum, above)
-
 -- the same times but at place j
 abbrev pub SameBut : ℕ → List ℤ → List ℤ → Type 0
 SameBut j times times' = (k : ℕ) → k ≢ j → getD times' k (pos 0) ≡ getD times k (pos 0)
@@ -53,7 +31,7 @@ abbrev pub Lasts : Leading → ℕ → Leading → Type 0
 Lasts l j r = (s : Side) (times times' lengths : List ℤ) → Leaves s times lengths l → SameBut j times times' → Leaves s times' lengths r
 
 pub unknown-leaves : (s : Side) (times lengths : List ℤ) (l : Leading) → l .set ≡ 0 → Leaves s times lengths l
-unknown-leaves s times lengths l e members = absurd (members e)
+unknown-leaves s times lengths l e some = absurd (some e)
 
 -- a sum of jobs that j is not among
 sum-elsewhere : (s : Side) (times times' lengths : List ℤ) (w j : ℕ) → bit w j ≡ false → SameBut j times times' → (z : ℤ)
@@ -72,5 +50,5 @@ sum-elsewhere s times times' lengths w j out same z sum =
     stays k m = same k λ e. refuted out (subst (λ x. bit w x ≡ true) e (sum .inside k m))
 
 pub outside-lasts : (l : Leading) (j : ℕ) → bit (l .set) j ≡ false → Lasts l j l
-outside-lasts l j out s times times' lengths leaves same members =
-    sum-elsewhere s times times' lengths (l .set) j out same (turned s (l .time)) (leaves members)
+outside-lasts l j out s times times' lengths leaves same some =
+    sum-elsewhere s times times' lengths (l .set) j out same (turned s (l .time)) (leaves some)

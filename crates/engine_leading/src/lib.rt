@@ -14,8 +14,8 @@ ghost use mathlib.Core.Logic.{_≢_};
 ghost use Prim.Native.Nat.{_<_};
 ghost use Rattle.paper_board.specs.Paper.Limits.{jobLimit};
 ghost use Rattle.paper_board.specs.Paper.Values.{sideOf};
-ghost use Rattle.engine_sums.specs.Sums.{Times, Lengths, Pushes, boundOf};
-ghost use Rattle.engine_bound_beyond.specs.BoundBeyond.{pushing};
+ghost use Rattle.engine_sums.specs.Sums.{Times, Lengths, boundOf};
+ghost use Rattle.engine_bound_beyond.specs.BoundBeyond.{pushing, Says};
 ghost use Rattle.engine_leading.specs.Leading.{Leaves, LeadsTo, Lasts};
 
 // A set of valid jobs, and a time, as a bound on one side, that it leaves to the jobs behind it. No jobs: no bound is known.
@@ -44,7 +44,7 @@ fn bound_left<'a>(
     order: &'a [u64; Order::WORDS],
 ) -> EnergyBound
     requires { ⌜ (job < jobLimit) × (set ≢ 0) × Times (now times) × Lengths (now lengths) × (set ≡ pushing (now beyond) valid job) ⌝ }
-    ensures { λ r. ⌜ Pushes (sideOf side) (now (times .entry)) (now (lengths .entry)) set job (boundOf (sideOf side) r) ⌝ }
+    ensures { λ r. ⌜ Says (sideOf side) (now (times .entry)) (now (lengths .entry)) (now (beyond .entry)) set job (boundOf (sideOf side) r) ⌝ }
 {
     if order[Order::COUNT] == 0 {
         return bound_beyond(side, job, times, lengths, beyond, opposite, valid, false);

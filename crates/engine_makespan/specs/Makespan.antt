@@ -1,15 +1,16 @@
--- Jobs put one after the other, each as early as its own bound and the job before it allow. Whatever their order, no sum of them is above
--- their end: a job adds its length to each sum that it joins, and to the end.
+-- Why no sum of jobs put one after the other is above their end, whatever their order: a job that is put behind the others adds its length to
+-- each sum that it joins, and to the end.
 use borrow.Author.Tests.{not-true}
 use mathlib.Core.Path.{_≡_, refl, sym, ap, _∙_}
 use mathlib.Core.Bool.{Bool, true, false, not, _&&_}
 use mathlib.Core.List.{List}
 use mathlib.Core.Logic.{_≢_, _⊎_, inl, inr}
+use mathlib.Core.Option.{none}
 use Prim.Native.Nat.{ℕ, zero, suc, _^_, _<_}
 use lib.IntN.{ℤ, pos, _+ℤ_}
 use lib.Signed.{ltZ, _≤ℤ_}
 use Rattle.ground_sets.specs.Bit.{bit, without}
-use Rattle.ground_sets.specs.BitLaws.{bit-zero, without-lt}
+use Rattle.ground_sets.specs.BitLaws.{bit-zero}
 use Rattle.ground_walks.specs.Walk.{without-self, without-other}
 use Rattle.ground_arithmetic.specs.Bools.{refuted, by-test, and-parts}
 use Rattle.ground_arithmetic.specs.Linear.{whole, plus}
@@ -18,22 +19,17 @@ use Rattle.ground_arithmetic.specs.Time.{Moderate, greater, greater-left, great
 use Rattle.paper_board.specs.Paper.View.{Side}
 use Rattle.paper_board.specs.Paper.Limits.{jobLimit, firstMinute}
 use Rattle.paper_board.specs.Tests.Bounds.{turned-time}
-use Rattle.engine_sums.specs.Sums.{boundAt, lengthAt, Times, Lengths, load, Sum}
+use Rattle.engine_sums.specs.Sums.{boundAt, lengthAt, Times, Lengths, load, Sum, Exceeds}
 use Rattle.engine_sums.specs.Laws.{load-range}
 
--- no sum of the set is above the end
-abbrev pub NoneAbove : Side → List ℤ → List ℤ → ℕ → ℤ → Type 0
-NoneAbove s times lengths set end = (z : ℤ) → Sum s times lengths set z → z ≤ℤ end
-
--- The jobs of the set that are not `left` stand one after the other: x, no greater than the bound of each of some of these, with their
--- lengths is no more than the end.
+-- Of the jobs of the set that are not `left` no sum is above the end: x, no greater than the bound of each of some of these, with their lengths
+-- is no more.
 pub record Sequenced (s : Side) (times lengths : List ℤ) (set left : ℕ) (end : ℤ) : Type 0 where
-  pub fits : left < 2 ^ jobLimit
   pub under : (S : ℕ → Bool) (x : ℤ) (j : ℕ) → S j ≡ true
       → ((k : ℕ) → S k ≡ true → (bit set k ≡ true) × (bit left k ≡ false) × (x ≤ℤ boundAt s times k))
       → (x +ℤ total jobLimit S (lengthAt lengths)) ≤ℤ end
 
--- an end, to which the lengths of what is left may still be added
+-- an end that stays within 500000 minutes and 64 lengths of 10000 when the lengths of all that is left are added
 pub record EndInRange (lengths : List ℤ) (left : ℕ) (end : ℤ) : Type 0 where
   pub low : firstMinute ≤ℤ end
   pub high : (end +ℤ load lengths left) ≤ℤ pos 1140000
@@ -44,8 +40,8 @@ module _ {lengths : List ℤ} (work : Lengths lengths) where
       let (_, most) = load-range work (bit set) in
       record { low = omega whole; high = omega (whole, plus firstMinute (load lengths set)) }
 
-  pub end-moderate : {left : ℕ} {end : ℤ} → EndInRange lengths left end → Moderate end
-  end-moderate {left} {end} h =
+  pub in-range-moderate : {left : ℕ} {end : ℤ} → EndInRange lengths left end → Moderate end
+  in-range-moderate {left} {end} h =
       let (least, _) = load-range work (bit left) in
       (omega (whole, h .low), omega (whole, h .high, plus end (load lengths left)))
 
@@ -53,11 +49,10 @@ pub greater-moderate : {a b : ℤ} → Moderate a → Moderate b → Moderate (g
 greater-moderate {a} {b} l r = by-test Moderate (ltZ a b) b a (λ e. r) (λ e. l)
 
 module _ {s : Side} {times lengths : List ℤ} where
-  pub none-sequenced : (set : ℕ) → set < 2 ^ jobLimit → Sequenced s times lengths set set firstMinute
-  none-sequenced set fits =
-      record { fits = fits; under = λ S x j e h. let (member, out, _) = h j e in absurd (refuted out member) }
+  pub none-sequenced : (set : ℕ) → Sequenced s times lengths set set firstMinute
+  none-sequenced set = record { under = λ S x j e h. let (member, out, _) = h j e in absurd (refuted out member) }
 
-  pub all-sequenced : {set left : ℕ} {end : ℤ} → Sequenced s times lengths set left end → left ≡ 0 → NoneAbove s times lengths set end
+  pub all-sequenced : {set left : ℕ} {end : ℤ} → Sequenced s times lengths set left end → left ≡ 0 → Exceeds (Sum s times lengths set) end none
   all-sequenced {set} {left} {end} p empty z q =
       let all = p .under (q .set) (boundAt s times (q .first)) (q .first) (q .member)
       λ k e. (q .inside k e, ap (λ w. bit w k) empty ∙ bit-zero k, q .least k e) in
@@ -75,7 +70,7 @@ member-or-none (suc n) S f = go (S n) refl (member-or-none n S f)
     go false e (inr nothing) = inr (rw e (omega (whole, nothing, plus (total n S f) (pos 0))))
 
 -- the end with job k put behind the others
-abbrev pub endWith : Side → List ℤ → List ℤ → ℕ → ℤ → ℤ
+abbrev endWith : Side → List ℤ → List ℤ → ℕ → ℤ → ℤ
 endWith s times lengths k end = greater end (boundAt s times k) +ℤ lengthAt lengths k
 
 -- job k, of those that are left, put behind the others
@@ -101,7 +96,7 @@ module _ (s : Side) {times lengths : List ℤ} (hours : Times times) (work : Len
       }
 
   pub append-sequenced : (set : ℕ) → Sequenced s times lengths set left end → Sequenced s times lengths set (without jobLimit left k) (endWith s times lengths k end)
-  append-sequenced set p = record { fits = without-lt jobLimit left k fits; under = λ S x j e h. with-or-without S x j e h (S k) refl }
+  append-sequenced set p = record { under = λ S x j e h. with-or-without S x j e h (S k) refl }
     where
       length : ℤ
       length = lengthAt lengths k

@@ -1,25 +1,27 @@
-// Jobs put one after the other, each as early as its own bound and the job before it allow: no sum of theirs is above their end, whatever
-// their order.
+// Jobs put one after the other, each as early as its own bound and the job before it allow. Whatever their order, no sum of theirs is above
+// their end: so the order need not be right.
 use engine_order::Order;
 use engine_order::eight_from;
 use engine_sums::bound;
 use paper_board::Board;
 use paper_board::facts::Side;
 ghost use mathlib.Core.Path.{_≡_};
+ghost use mathlib.Core.Option.{none};
 ghost use Prim.Native.Nat.{ℕ, _<_};
 ghost use Rattle.paper_board.specs.Paper.Limits.{jobLimit};
 ghost use Rattle.paper_board.specs.Paper.Values.{sideOf};
-ghost use Rattle.engine_sums.specs.Sums.{Times, Lengths};
-ghost use Rattle.engine_makespan.specs.Makespan.{EndInRange, Sequenced, NoneAbove};
+ghost use Rattle.engine_sums.specs.Sums.{Times, Lengths, Sum, Exceeds};
+ghost use Rattle.engine_makespan.specs.Makespan.{EndInRange, Sequenced};
 
-// The jobs of a set that are still to come, where the last run of jobs without a pause begins, and where it ends.
+// The jobs of a set that are still to come, where the last block of jobs without idle time between them begins, and where it ends. Of the beginning
+// nothing is promised: who uses it tests what it gives.
 pub struct Sequence {
     pub left: u64,
     pub start: i32,
     pub end: i32,
 }
 
-// Job k put behind the others, where it is still to come.
+// Job k put behind the others, where it is still to come. The end is made before that is asked, so that no branch has to be foreseen.
 fn append(
     side: Side,
     times: &[i32; Board::JOBS],
@@ -71,7 +73,7 @@ fn append_eight(
     sequence
 }
 
-// The jobs of a set in an order. Those that it lacks are left.
+// The jobs of a set in an order, as far as it has them: where none are left, no sum of theirs is above the end.
 pub fn in_order(
     side: Side,
     times: &[i32; Board::JOBS],
@@ -81,7 +83,7 @@ pub fn in_order(
 ) -> Sequence
     requires { ⌜ Times (now times) × Lengths (now lengths) ⌝ }
     ensures { λ r. ⌜ EndInRange (now (lengths .entry)) (r .left) (r .end) ⌝ }
-    ensures { λ r. ⌜ (r .left ≡ 0 → NoneAbove (sideOf side) (now (times .entry)) (now (lengths .entry)) set (r .end)) ⌝ }
+    ensures { λ r. ⌜ (r .left ≡ 0 → Exceeds (Sum (sideOf side) (now (times .entry)) (now (lengths .entry)) set) (r .end) none) ⌝ }
 {
     let mut sequence = Sequence {
         left: set,

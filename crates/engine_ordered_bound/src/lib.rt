@@ -11,14 +11,14 @@ use paper_board::Board;
 use paper_board::facts::Side;
 ghost use mathlib.Core.Path.{_≡_};
 ghost use mathlib.Core.Bool.{true};
+ghost use mathlib.Core.Option.{none};
 ghost use Rattle.ground_arithmetic.specs.Time.{Moderate};
 ghost use Rattle.paper_board.specs.Paper.Values as paper;
 ghost use Rattle.paper_board.specs.Tests.Sets.{Subset};
 ghost use Rattle.engine_sums.specs.Sums as sums;
-ghost use Rattle.engine_makespan.specs.Makespan.{NoneAbove};
 
-// The jobs of a set that start at `start` or later.
-fn starting_from(side: Side, times: &[i32; Board::JOBS], set: u64, start: i32) -> u64
+// Jobs of a set: those with a bound of `start` or more.
+fn bounded_from(side: Side, times: &[i32; Board::JOBS], set: u64, start: i32) -> u64
     requires { ⌜ sums.Times (now times) ⌝ }
     ensures { λ r. ⌜ Subset r set ⌝ }
 {
@@ -35,8 +35,8 @@ fn starting_from(side: Side, times: &[i32; Board::JOBS], set: u64, start: i32) -
     found
 }
 
-// Is the end of a sequence of all jobs of a set, whose last run begins at `start`, their greatest sum, if that is above `low`? No sum is above
-// the end: so it is where it is no higher than `low`, and where the jobs from that start on come to it.
+// Does an end that no sum of a set is above decide what their greatest sum above `low` is? It does where it is no higher than `low`, and where
+// the jobs with bounds from `start` on, where its last block begins if the order was right, come to it.
 fn decides(
     side: Side,
     times: &[i32; Board::JOBS],
@@ -46,17 +46,17 @@ fn decides(
     start: i32,
     end: i32,
 ) -> bool
-    requires { ⌜ sums.Times (now times) × sums.Lengths (now lengths) × NoneAbove (paper.sideOf side) (now times) (now lengths) set end ⌝ }
+    requires { ⌜ sums.Times (now times) × sums.Lengths (now lengths) × sums.Exceeds (sums.Sum (paper.sideOf side) (now times) (now lengths) set) end none ⌝ }
     ensures { λ r. ⌜ (r ≡ true → sums.Exceeds (sums.Sum (paper.sideOf side) (now (times .entry)) (now (lengths .entry)) set) low (sums.over low end)) ⌝ }
 {
     if end <= low {
         return true;
     }
-    let run = starting_from(side, times, set, start);
-    if run == 0 {
+    let block = bounded_from(side, times, set, start);
+    if block == 0 {
         return false;
     }
-    let all = whole(side, times, lengths, run);
+    let all = whole(side, times, lengths, block);
     ground_arithmetic::sum(all.least, all.total) == end
 }
 

@@ -113,7 +113,7 @@ part-sum {w = w} inside c some-job =
       is = cc (h .is, c .loaded);
     }
 
--- no number that has the property is above z, and z itself has it where it is above `low`
+-- where no number that has the property is above z, and z itself has it if it is above `low`, z is the greatest above `low`, if any is
 pub none-above : {P : ℤ → Type 0} (low z : ℤ) → ((y : ℤ) → P y → y ≤ℤ z) → (low <ℤ z → P z) → Exceeds P low (over low z)
 none-above {P} low z under at =
     by-test (Exceeds P low) (ltZ low z) (some z) none (λ e. ((at (omega whole), under), omega whole)) λ e y q. omega (whole, under y q)

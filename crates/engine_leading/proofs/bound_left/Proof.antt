@@ -10,7 +10,7 @@ use Rattle.paper_board.specs.Paper.Values.{sideOf}
 use Rattle.paper_board.specs.Tests.Ranges.{time-moderate}
 use Rattle.engine_sums.specs.Sums.{boundOf}
 use Rattle.engine_sums.specs.Laws.{time-fits}
-use Rattle.engine_leading.specs.Leading.{beyond-pushes, alone-pushes, sums-push}
+use Rattle.engine_bound_beyond.specs.BoundBeyond.{last-alone, all-sums}
 use Rattle.engine_leading.proofs.bound_left.Statement.{statement}
 use Rattle.engine_leading.proofs.bound_left.Tie as tie
 
@@ -23,9 +23,7 @@ floor-moderate start =
 returns : tie.Need-returns
 returns c =
     let start = c .before .before .before in
-    let a = start .args in
-    let side = sideOf (a .side) in
-    beyond-pushes side (a .times .now) (a .lengths .now) (a .set) (a .job) (a .beyond .now) (a .valid) (start .pre .4) (boundOf side (c .bound-beyond .result)) (c .bound-beyond .ensures)
+    rw (start .pre .4) (c .bound-beyond .ensures)
 
 single-bound-requires : tie.Need-single-bound-requires
 single-bound-requires c κs =
@@ -40,7 +38,10 @@ returns-2 c =
     let start = found .before .before .before in
     let a = start .args in
     let told = simp (toZ-ofZ, time-fits (start .pre .2 .time (a .job))) at (c .single-bound .ensures) in
-    rw told (alone-pushes (sideOf (a .side)) (a .times .now) (a .lengths .now) (a .set) (a .job) (found .last .result) (found .last .ensures .0) (found .last .ensures .1))
+    let side = sideOf (a .side) in
+    let apart = c .before .before .before in
+    rw told
+    (last-alone side (a .times .now) (a .lengths .now) (a .beyond .now) (a .job) (a .set) (found .last .result) _ (found .last .ensures .0) (found .last .ensures .1) (apart .standing-apart .ensures) (c .before .before .if2 .taken))
 
 ordered-bound-requires : tie.Need-ordered-bound-requires
 ordered-bound-requires c κs =
@@ -54,7 +55,7 @@ returns-3 c =
     let a = start .args in
     let told = simp (toZ-ofZ, time-fits (start .pre .2 .time (a .job))) at (c .ordered-bound .ensures) in
     let side = sideOf (a .side) in
-    sums-push side (a .times .now) (a .lengths .now) (a .set) (a .job) (boundOf side (c .ordered-bound .result)) told
+    all-sums side (a .times .now) (a .lengths .now) (a .beyond .now) (a .job) (a .set) (boundOf side (c .ordered-bound .result)) told
 
 pub bound-left-spec : {M : Type 1} → statement M
 bound-left-spec =

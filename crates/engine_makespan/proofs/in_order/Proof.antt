@@ -19,7 +19,7 @@ abbrev μ-loop : tie.MeasureT-loop
 μ-loop side times lengths set order sequence₀ n₀ sequence n = 8 - n
 
 loop-holds : tie.Need-loop-holds Inv-loop μ-loop
-loop-holds c = record { counted = omega arith; ends = none-in-range (c .pre .1) _; sequenced = none-sequenced _ (c .fits .set .fits) }
+loop-holds c = record { counted = omega arith; ends = none-in-range (c .pre .1) _; sequenced = none-sequenced _ }
 
 append-eight-requires : tie.Need-append-eight-requires Inv-loop μ-loop
 append-eight-requires c κs =

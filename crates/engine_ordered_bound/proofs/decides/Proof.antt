@@ -37,7 +37,7 @@ returns-3 c = λ e.
     let some-job = else .if2 .left in
     let sum-is = rw (low-back hours work comes some-job, all-back hours work comes some-job) at (c .sum .ensures) in
     let same = sym (toZ-ofZ w32 _ (record { sfits = c .sum .ok })) ∙ ap (toZ w32) (eqb-true (ofZ w32 (c .sum .result)) (ofZ w32 (start .args .end)) e) ∙ toZ-ofZ w32 _ (start .fits .end) in
-    none-above (start .args .low) (start .args .end) under (λ more. rw (sym sum-is ∙ same) at (part-sum (else .before .starting-from .ensures) comes some-job))
+    none-above (start .args .low) (start .args .end) under (λ more. rw (sym sum-is ∙ same) at (part-sum (else .before .bounded-from .ensures) comes some-job))
 
 pub decides-spec : {M : Type 1} → statement M
 decides-spec = tie.close (tie.spec returns (λ c κs. search needs) returns-2 (λ c κs. search needs) sum-requires returns-3)

@@ -5,7 +5,7 @@ use mathlib.Core.Path.{_∙_}
 use mir.Syntax.{w32}
 use mir.Val.{SFits}
 use mir.ValLaws.{toZ-ofZ}
-use Rattle.engine_makespan.specs.Makespan.{end-moderate}
+use Rattle.engine_makespan.specs.Makespan.{in-range-moderate}
 use Rattle.engine_ordered_bound.proofs.ordered_bound.Statement.{statement}
 use Rattle.engine_ordered_bound.proofs.ordered_bound.Tie as tie
 
@@ -24,7 +24,7 @@ above-requires : tie.Need-above-requires
 above-requires c κs =
     let ran = c .before .before .before .before .before .before .before in
     let (_, work, _) = ran .before .before .pre in
-    simp (toZ-ofZ, end-fits ran) (end-moderate work (ran .in-order .ensures .0))
+    simp (toZ-ofZ, end-fits ran) (in-range-moderate work (ran .in-order .ensures .0))
 
 returns : tie.Need-returns
 returns c =

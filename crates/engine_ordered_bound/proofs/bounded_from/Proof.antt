@@ -1,9 +1,9 @@
--- `engine_ordered_bound::starting_from` meets its contract: what it finds is in the set. The measure is the word of the jobs that are left.
+-- `engine_ordered_bound::bounded_from` meets its contract: what it finds is in the set. The measure is the word of the jobs that are left.
 -- Assumes nothing.
 use borrow.Author.Needs.{needs}
 use Rattle.paper_board.specs.Tests.Sets.{Subset, subset-none, subset-with}
-use Rattle.engine_ordered_bound.proofs.starting_from.Statement.{statement}
-use Rattle.engine_ordered_bound.proofs.starting_from.Tie as tie
+use Rattle.engine_ordered_bound.proofs.bounded_from.Statement.{statement}
+use Rattle.engine_ordered_bound.proofs.bounded_from.Tie as tie
 
 abbrev Inv-loop : tie.InvT-loop
 Inv-loop side times set start found₀ left₀ found left = Subset left set × Subset found set
@@ -30,8 +30,8 @@ loop-again-2 c =
 returns : tie.Need-returns Inv-loop μ-loop
 returns c = c .before .loop .inv .1
 
-pub starting-from-spec : {M : Type 1} → statement M
-starting-from-spec =
+pub bounded-from-spec : {M : Type 1} → statement M
+bounded-from-spec =
     tie.close
     (tie.spec
     Inv-loop
