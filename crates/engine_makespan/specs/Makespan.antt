@@ -11,7 +11,7 @@ use lib.IntN.{ℤ, pos, _+ℤ_}
 use lib.Signed.{ltZ, _≤ℤ_}
 use Rattle.ground_sets.specs.Bit.{bit, without}
 use Rattle.ground_sets.specs.BitLaws.{bit-zero}
-use Rattle.ground_walks.specs.Walk.{without-self, without-other}
+use Rattle.ground_walks.specs.Walk.{without-other}
 use Rattle.ground_arithmetic.specs.Bools.{refuted, by-test, and-parts}
 use Rattle.ground_arithmetic.specs.Linear.{whole, plus}
 use Rattle.ground_arithmetic.specs.Sum.{sum, total, total-member}
@@ -21,6 +21,7 @@ use Rattle.paper_board.specs.Paper.Limits.{jobLimit, firstMinute}
 use Rattle.paper_board.specs.Tests.Bounds.{turned-time}
 use Rattle.engine_sums.specs.Sums.{boundAt, lengthAt, Times, Lengths, load, Sum, Exceeds}
 use Rattle.engine_sums.specs.Laws.{load-range}
+use Rattle.engine_sums.specs.Members.{total-without}
 
 -- Of the jobs of the set that are not `left` no sum is above the end: x, no greater than the bound of each of some of these, with their lengths
 -- is no more.
@@ -76,11 +77,6 @@ endWith s times lengths k end = greater end (boundAt s times k) +ℤ lengthAt le
 -- job k, of those that are left, put behind the others
 module _ (s : Side) {times lengths : List ℤ} (hours : Times times) (work : Lengths lengths) {left k : ℕ} (end : ℤ) (fits : left < 2 ^ jobLimit)
     (width : k < jobLimit) (member : bit left k ≡ true) where
-  lighter : load lengths left ≡ lengthAt lengths k +ℤ load lengths (without jobLimit left k)
-  lighter =
-      total-member jobLimit (bit left) (bit (without jobLimit left k)) (lengthAt lengths) k width member (without-self jobLimit left k fits width)
-      (without-other jobLimit left k fits width)
-
   pub append-in-range : EndInRange lengths left end → EndInRange lengths (without jobLimit left k) (endWith s times lengths k end)
   append-in-range h =
       let length = lengthAt lengths k in
@@ -88,11 +84,12 @@ module _ (s : Side) {times lengths : List ℤ} (hours : Times times) (work : Len
       let less = load lengths (without jobLimit left k) in
       let time = turned-time s _ (hours .time k) in
       let (_, most) = load-range work (bit left) in
+      let fewer = total-without jobLimit left k fits width member (lengthAt lengths) in
       record {
         low = omega (whole, h .low, greater-left end b, work .low k, plus (greater end b) length);
         high = by-test (λ z. ((z +ℤ length) +ℤ less) ≤ℤ pos 1140000) (ltZ end b) b end
-            (λ e. omega (whole, lighter, most, time .high, plus b length, plus (b +ℤ length) less, plus length less))
-            (λ e. omega (whole, lighter, h .high, plus end (load lengths left), plus end length, plus (end +ℤ length) less, plus length less));
+            (λ e. omega (whole, fewer, most, time .high, plus b length, plus (b +ℤ length) less, plus length less))
+            (λ e. omega (whole, fewer, h .high, plus end (load lengths left), plus end length, plus (end +ℤ length) less, plus length less));
       }
 
   pub append-sequenced : (set : ℕ) → Sequenced s times lengths set left end → Sequenced s times lengths set (without jobLimit left k) (endWith s times lengths k end)

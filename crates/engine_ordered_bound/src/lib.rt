@@ -36,7 +36,8 @@ fn bounded_from(side: Side, times: &[i32; Board::JOBS], set: u64, start: i32) ->
 }
 
 // Does an end that no sum of a set is above decide what their greatest sum above `low` is? It does where it is no higher than `low`, and where
-// the jobs with bounds from `start` on, where its last block begins if the order was right, come to it.
+// the jobs with bounds from `start` on, where its last block begins if the order was right, come to it. A `false` too many costs time and no
+// answer.
 fn decides(
     side: Side,
     times: &[i32; Board::JOBS],

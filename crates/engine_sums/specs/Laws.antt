@@ -31,6 +31,10 @@ use Rattle.engine_sums.specs.Sums.{boundAt, lengthAt, endAt, Times, Leng
 pub time-fits : {z : ℤ} → IsTime z → SFits w32 z
 time-fits {z} t = fits z (omega (whole, t .low)) (omega (whole, t .high))
 
+-- also as the machine reads it back from its bits
+pub time-back-moderate : {z : ℤ} → IsTime z → Moderate (toZ w32 (ofZ w32 z))
+time-back-moderate t = simp (toZ-ofZ, time-fits t) (time-moderate t)
+
 module _ {lengths : List ℤ} (work : Lengths lengths) where
   pub length-fits : (k : ℕ) → SFits w32 (lengthAt lengths k)
   length-fits k = fits _ (omega (whole, work .low k)) (omega (whole, work .high k))

@@ -2,4 +2,5 @@
 pub mod Sums
 pub mod Exact
 pub mod Laws
+pub mod Members
 pub mod Single

@@ -1,15 +1,9 @@
 -- `engine_bound_beyond::bound_of` meets its contract: the last one alone or with those that stand apart, or all sums. Assumes nothing.
 use borrow.Author.Needs.{needs}
-use lib.IntN.{pos}
-use lib.ListN.{getD}
-use mir.Syntax.{w32}
-use mir.Val.{toZ, ofZ}
 use mir.ValLaws.{toZ-ofZ}
-use Rattle.ground_arithmetic.specs.Time.{Moderate}
 use Rattle.paper_board.specs.Paper.Values.{sideOf}
-use Rattle.paper_board.specs.Tests.Ranges.{time-moderate}
 use Rattle.engine_sums.specs.Sums.{boundOf}
-use Rattle.engine_sums.specs.Laws.{time-fits}
+use Rattle.engine_sums.specs.Laws.{time-fits, time-back-moderate}
 use Rattle.engine_bound_beyond.specs.BoundBeyond.{last-ends-by, last-alone, all-sums}
 use Rattle.engine_bound_beyond.proofs.bound_of.Statement.{statement}
 use Rattle.engine_bound_beyond.proofs.bound_of.Tie as tie
@@ -18,18 +12,12 @@ use Rattle.engine_bound_beyond.proofs.bound_of.Tie as tie
 abbrev start-of : tie.After-standing-apart → tie.Start
 start-of c = c .before .before .before
 
--- the job's own bound as a floor
-floor-moderate : (start : tie.Start) → Moderate (toZ w32 (ofZ w32 (getD (start .args .times .now) (start .args .job) (pos 0))))
-floor-moderate start =
-    let t = start .pre .2 .time (start .args .job) in
-    simp (toZ-ofZ, time-fits t) (time-moderate t)
-
 single-bound-requires : tie.Need-single-bound-requires
 single-bound-requires c κs =
     let apart = c .before .before in
     let start = start-of apart in
     let (_, _, hours, work) = start .pre in
-    (hours, work, apart .before .before .last .ensures .0, floor-moderate start)
+    (hours, work, apart .before .before .last .ensures .0, time-back-moderate (start .pre .2 .time (start .args .job)))
 
 returns : tie.Need-returns
 returns c =
@@ -47,7 +35,7 @@ ends-by-requires c κs =
     let apart = c .before .before .before .before .before in
     let start = start-of apart in
     let (_, _, hours, work) = start .pre in
-    (hours, work, apart .before .before .last .ensures .0, floor-moderate start)
+    (hours, work, apart .before .before .last .ensures .0, time-back-moderate (start .pre .2 .time (start .args .job)))
 
 returns-2 : tie.Need-returns-2
 returns-2 c =
@@ -63,7 +51,7 @@ energy-bound-requires : tie.Need-energy-bound-requires
 energy-bound-requires c κs =
     let start = start-of (c .before .before .before) in
     let (_, _, hours, work) = start .pre in
-    (hours, work, floor-moderate start)
+    (hours, work, time-back-moderate (start .pre .2 .time (start .args .job)))
 
 returns-3 : tie.Need-returns-3
 returns-3 c =

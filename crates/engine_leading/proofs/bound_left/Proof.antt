@@ -1,24 +1,12 @@
--- `engine_leading::bound_left` meets its contract: what the last one alone leaves, or the greatest sum. Assumes nothing.
+-- `engine_leading::bound_left` meets its contract: what is said without an order, what the last one alone leaves, or the greatest sum. Assumes nothing.
 use borrow.Author.Needs.{needs}
-use lib.IntN.{pos}
-use lib.ListN.{getD}
-use mir.Syntax.{w32}
-use mir.Val.{toZ, ofZ}
 use mir.ValLaws.{toZ-ofZ}
-use Rattle.ground_arithmetic.specs.Time.{Moderate}
 use Rattle.paper_board.specs.Paper.Values.{sideOf}
-use Rattle.paper_board.specs.Tests.Ranges.{time-moderate}
 use Rattle.engine_sums.specs.Sums.{boundOf}
-use Rattle.engine_sums.specs.Laws.{time-fits}
+use Rattle.engine_sums.specs.Laws.{time-fits, time-back-moderate}
 use Rattle.engine_bound_beyond.specs.BoundBeyond.{last-alone, all-sums}
 use Rattle.engine_leading.proofs.bound_left.Statement.{statement}
 use Rattle.engine_leading.proofs.bound_left.Tie as tie
-
--- the job's own bound as a floor
-floor-moderate : (start : tie.Start) → Moderate (toZ w32 (ofZ w32 (getD (start .args .times .now) (start .args .job) (pos 0))))
-floor-moderate start =
-    let t = start .pre .2 .time (start .args .job) in
-    simp (toZ-ofZ, time-fits t) (time-moderate t)
 
 returns : tie.Need-returns
 returns c =
@@ -30,7 +18,7 @@ single-bound-requires c κs =
     let found = c .before .before .before .before in
     let start = found .before .before .before in
     let (_, _, hours, work, _) = start .pre in
-    (hours, work, found .last .ensures .0, floor-moderate start)
+    (hours, work, found .last .ensures .0, time-back-moderate (start .pre .2 .time (start .args .job)))
 
 returns-2 : tie.Need-returns-2
 returns-2 c =
@@ -47,7 +35,7 @@ ordered-bound-requires : tie.Need-ordered-bound-requires
 ordered-bound-requires c κs =
     let start = c .before .before .before .before .before .before .before .before in
     let (_, _, hours, work, _) = start .pre in
-    (hours, work, floor-moderate start)
+    (hours, work, time-back-moderate (start .pre .2 .time (start .args .job)))
 
 returns-3 : tie.Need-returns-3
 returns-3 c =

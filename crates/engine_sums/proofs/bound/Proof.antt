@@ -3,8 +3,7 @@ use mathlib.Core.Path.{_∙_}
 use native.Mathlib.Omega.{arith}
 use mir.Syntax.{w32}
 use mir.ValLaws.{toZ-ofZ}
-use Rattle.paper_board.specs.Tests.Ranges.{time-moderate}
-use Rattle.engine_sums.specs.Laws.{time-fits}
+use Rattle.engine_sums.specs.Laws.{time-fits, time-back-moderate}
 use Rattle.engine_sums.proofs.bound.Statement.{statement}
 use Rattle.engine_sums.proofs.bound.Tie as tie
 
@@ -15,9 +14,7 @@ element-copy-out-turned : tie.Need-element-copy-out-turned
 element-copy-out-turned c = c .pre .1
 
 turned-requires : tie.Need-turned-requires
-turned-requires c κs =
-    let t = c .before .pre .0 .time (c .before .args .k) in
-    simp (toZ-ofZ, time-fits t) (time-moderate t)
+turned-requires c κs = time-back-moderate (c .before .pre .0 .time (c .before .args .k))
 
 returns : tie.Need-returns
 returns c =
