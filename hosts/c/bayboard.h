@@ -220,7 +220,7 @@ static inline const char *bayboard_refusal_text(uint64_t number)
     }
 }
 
-/* The layout that the library has, asserted in any dialect: where there is no assertion, an array of size -1 is refused. */
+/* The layout that the library has, asserted from C99 and from C++11 on: where there is no assertion, an array of size -1 is refused. */
 #ifdef __cplusplus
 #define BAYBOARD_ASSERT(name, holds) static_assert(holds, #name)
 #define BAYBOARD_SIZEOF(type, field) sizeof(type::field)

@@ -1,4 +1,4 @@
-// The calls for a host in C or Rust that keeps the board: they alter it where it is kept, or look at it there, and their replies are
+// The calls for a host in another language that keeps the board: they alter it where it is kept, or look at it there, and their replies are
 // structs of numbers. Any board may be handed in; check 0 is among their checks.
 use call_dock::Dock;
 use call_reply_numbers::PairReply;

@@ -34,20 +34,27 @@ fn matches(package: u32, library: u32, size: usize) -> bool {
 pub(crate) fn assert_library() {
     assert!(
         library_matches(),
-        "a library of version {} and boards of {} bytes, for a package of version {VERSION} and {} bytes",
-        library_version(),
+        "a library of version {} and boards of {} bytes, for a package of version {} and {} bytes",
+        text(library_version()),
         ffi::bayboard_size(),
+        env!("CARGO_PKG_VERSION"),
         Board::BYTES
     );
 }
 
+fn text(version: u32) -> String {
+    let (first, second, third) = (version / 10_000, version / 100 % 100, version % 100);
+    format!("{first}.{second}.{third}")
+}
+
 #[cfg(test)]
 mod tests {
-    use super::{library_matches, library_version, matches, VERSION};
+    use super::{library_matches, library_version, matches, text, VERSION};
 
     #[test]
     fn the_library_is_of_the_packages_version() {
         assert_eq!(library_version(), VERSION);
+        assert_eq!(text(library_version()), env!("CARGO_PKG_VERSION"));
         assert!(library_matches());
     }
 
