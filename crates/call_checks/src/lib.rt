@@ -8,9 +8,9 @@ ghost use lib.IntN.{pos};
 ghost use lib.Signed.{_≤ℤ_};
 ghost use Rattle.ground_arithmetic.specs.Linear.{eqZ};
 ghost use Rattle.paper_entries.specs.Paper.Entry as entry;
-ghost use Rattle.paper_entries.specs.Paper.Gate as paper;
-ghost use Rattle.paper_entries.specs.Paper.Gate.{Check, isJob, jobCheck, pairChecks, budgetCheck, gate};
-ghost use Rattle.call_checks.specs.Values.{refusalOf};
+ghost use Rattle.paper_entries.specs.Paper.Checks as paper;
+ghost use Rattle.paper_entries.specs.Paper.Checks.{Check, isJob, jobCheck, pairChecks, budgetCheck, gate};
+ghost use Rattle.call_checks.specs.RefusalOf.{refusalOf};
 
 // What the checks say of a call: no refusal, or the first that it meets.
 pub enum Gate {

@@ -8,7 +8,7 @@ use Rattle.paper_rules.specs.Update.Updates.{_andThen_}
 use Rattle.paper_closure.specs.Check.{passes}
 use Rattle.paper_closure.specs.Closing.{closure}
 use Rattle.paper_entries.specs.Paper.Entry.{Entry}
-use Rattle.paper_entries.specs.Paper.Gate.{checks, gate}
+use Rattle.paper_entries.specs.Paper.Checks.{checks, gate}
 use Rattle.paper_entries.specs.Paper.Enter.{closureWith, acceptance, refused, concluded, judged, enter}
 use Rattle.call_statements.specs.Stated.{rawOf}
 use Rattle.call_statements.specs.StatedBy.{statedBy, stated-raw}

@@ -7,7 +7,7 @@ use Rattle.paper_board.specs.declared.Refusal.the-variants as Refused
 use Rattle.paper_rules.specs.Update.Filled.{possibly}
 use Rattle.paper_rules.specs.Update.Updates.{_andThen_}
 use Rattle.paper_closure.specs.Check.{passes}
-use Rattle.paper_closure.specs.Checked.{closed-already}
+use Rattle.paper_closure.specs.PassesClosed.{closed-already}
 use Rattle.paper_closure.specs.Closing.{closure}
 use Rattle.paper_entries.specs.declared.Answer.{Answer}
 use Rattle.paper_entries.specs.declared.Entered.{Entered}

@@ -20,7 +20,7 @@ ghost use Rattle.paper_rules.specs.Update.Updates.{_andThen_};
 ghost use Rattle.paper_closure.specs.Check.{passes};
 ghost use Rattle.paper_closure.specs.Closing as closing;
 ghost use Rattle.paper_entries.specs.Paper.Enter as paper;
-ghost use Rattle.paper_entries.specs.Paper.Values.{entryOf};
+ghost use Rattle.paper_entries.specs.Paper.EntryOf.{entryOf};
 ghost use Rattle.call_statements.specs.Stated.{rawOf, Admissible};
 
 // The attempt on a copy of the board's arrays, and what is concluded: the board put together once, or refusal 8. The two stand in one

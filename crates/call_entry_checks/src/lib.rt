@@ -14,9 +14,9 @@ ghost use mathlib.Core.Bool.{_&&_};
 ghost use mathlib.Core.List.{List, _∷_};
 ghost use Rattle.paper_board.specs.Paper.Tests as tests;
 ghost use Rattle.paper_entries.specs.Paper.Entry as entry;
-ghost use Rattle.paper_entries.specs.Paper.Gate.{Check, timeCheck, windowCheck, checks, gate};
-ghost use Rattle.paper_entries.specs.Paper.Values.{entryOf};
-ghost use Rattle.call_checks.specs.Values.{refusalOf};
+ghost use Rattle.paper_entries.specs.Paper.Checks.{Check, timeCheck, windowCheck, checks, gate};
+ghost use Rattle.paper_entries.specs.Paper.EntryOf.{entryOf};
+ghost use Rattle.call_checks.specs.RefusalOf.{refusalOf};
 
 fn are_times(earliest: i32, latest: i32) -> bool
     ensures { λ r. ⌜ r ≡ tests.isTime earliest && tests.isTime latest ⌝ }

@@ -20,14 +20,14 @@ use Rattle.paper_board.specs.declared.Board.{Board}
 use Rattle.paper_entries.specs.declared.Entry as code
 use Rattle.paper_entries.specs.Paper.Entry.{Entry}
 use Rattle.paper_entries.specs.Paper.Enter.{enter}
-use Rattle.paper_entries.specs.Paper.Values.{entryOf}
+use Rattle.paper_entries.specs.Paper.EntryOf.{entryOf}
 use Rattle.call_in_place.proofs.Arguments.{Values, values}
 use Rattle.call_in_place.proofs.ByReference.{altering, Says, Said, Alters}
 use Rattle.call_in_place.proofs.Carried.{by-reference, Carried}
 use Rattle.call_in_place.proofs.Handed.{entry}
 use Rattle.call_in_place.proofs.Named as named
 use Rattle.call_reply_numbers.specs.declared.Reply.{Reply}
-use Rattle.call_reply_numbers.specs.Replies.{replied}
+use Rattle.call_reply_numbers.specs.ReplyNumbers.{replied}
 use Rattle.call_exports.proofs.Passing.{asked, enough, as-flagged}
 use Rattle.call_exports.proofs.Replied.{reply, both}
 use Rattle.call_exports.proofs.enter.Met as entered

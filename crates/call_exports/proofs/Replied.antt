@@ -21,7 +21,7 @@ use Rattle.call_in_place.proofs.Carried.{Carried, value}
 use Rattle.call_in_place.proofs.Handed.{answer}
 use Rattle.call_in_place.proofs.Plain.{Plain, struct}
 use Rattle.call_reply_numbers.specs.declared.Reply.{Reply}
-use Rattle.call_reply_numbers.specs.Replies.{Replied, entryReply}
+use Rattle.call_reply_numbers.specs.ReplyNumbers.{Replied, entryReply}
 use Rattle.call_reply_numbers.proofs.Reply as R
 use Rattle.call_reply_numbers.proofs.Reply.Laws as R′
 

@@ -44,7 +44,7 @@ use Rattle.call_in_place.proofs.Called.{ByValue, calls}
 use Rattle.call_in_place.proofs.Carried.{by-value, by-reference, Carried, value}
 use Rattle.call_in_place.proofs.Cells.{locals, count, past, copies, other, alloc-all, pass-all, free-all, look-all}
 use Rattle.call_in_place.proofs.Handed.{entered}
-use Rattle.call_reply_numbers.specs.Replies.{entryReply}
+use Rattle.call_reply_numbers.specs.ReplyNumbers.{entryReply}
 use Rattle.call_exports.proofs.Replied.{reply, ToReply, replies}
 use Rattle.call_reply_numbers.proofs.entry_reply.Met as reply-met
 use Rattle.call_reply_numbers.proofs.entry_reply.Symbol as entry-reply

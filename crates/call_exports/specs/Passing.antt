@@ -7,11 +7,11 @@ use Rattle.paper_board.specs.Paper.Limits.{emptyBoard}
 use Rattle.paper_board.specs.Paper.Parts.{emptyBooks}
 use Rattle.paper_rules.specs.Order.Empty.{within-emptyBooks}
 use Rattle.paper_closure.specs.Check.{passes}
-use Rattle.paper_closure.specs.Checked as checked
+use Rattle.paper_closure.specs.PassesClosed as checked
 use Rattle.paper_entries.specs.Paper.Entry.{Entry}
 use Rattle.paper_entries.specs.Paper.Enter.{enter}
 use Rattle.paper_entries.specs.Later.{call-later}
-use Rattle.call_reply_numbers.specs.Replies.{replied}
+use Rattle.call_reply_numbers.specs.ReplyNumbers.{replied}
 
 pub empty-passes : passes (emptyBoard emptyBooks) ≡ true
 empty-passes = checked.empty-passes emptyBooks within-emptyBooks

@@ -15,7 +15,7 @@ ghost use Rattle.paper_entries.specs.Paper.Entry as entry;
 ghost use Rattle.paper_entries.specs.Paper.Enter as paper;
 ghost use Rattle.paper_entries.specs.Paper.Looking as looking;
 ghost use Rattle.paper_plans.specs.Paper.Planner as planning;
-ghost use Rattle.call_reply_numbers.specs.Replies.{replied, rowReply, pairReply, planReply};
+ghost use Rattle.call_reply_numbers.specs.ReplyNumbers.{replied, rowReply, pairReply, planReply};
 
 // "Addition: length, E, D, mark 0 or 1; gives the job's number."
 #[no_mangle]

@@ -16,9 +16,9 @@ ghost use mathlib.Core.Bool.{true};
 ghost use Rattle.paper_closure.specs.Check as check;
 ghost use Rattle.paper_entries.specs.Paper.Enter as paper;
 ghost use Rattle.paper_entries.specs.Paper.Looking as looking;
-ghost use Rattle.paper_entries.specs.Paper.Values.{entryOf};
+ghost use Rattle.paper_entries.specs.Paper.EntryOf.{entryOf};
 ghost use Rattle.paper_plans.specs.Paper.Planner as planning;
-ghost use Rattle.call_reply_numbers.specs.Replies.{rowReply, pairReply, planReply};
+ghost use Rattle.call_reply_numbers.specs.ReplyNumbers.{rowReply, pairReply, planReply};
 
 pub mod unchecked;
 

@@ -11,7 +11,7 @@ ghost use mathlib.Core.Bool.{true};
 ghost use Rattle.paper_closure.specs.Check.{passes};
 ghost use Rattle.paper_entries.specs.Paper.Looking as looking;
 ghost use Rattle.paper_plans.specs.Paper.Planner as planning;
-ghost use Rattle.call_reply_numbers.specs.Replies.{rowReply, pairReply, planReply};
+ghost use Rattle.call_reply_numbers.specs.ReplyNumbers.{rowReply, pairReply, planReply};
 
 pub fn row(dock: Dock, job: i32) -> RowReply
     requires { ⌜ passes (dock .board) ≡ true ⌝ }

@@ -11,8 +11,8 @@ ghost use Rattle.ground_sets.specs.Bit.{intersection};
 ghost use Rattle.paper_board.specs.Paper.Limits.{Within, jobLimit};
 ghost use Rattle.paper_board.specs.Paper.View.{view};
 ghost use Rattle.paper_plans.specs.Paper.Planner as paper;
-ghost use Rattle.call_placements.specs.Rest.{stack};
-ghost use Rattle.call_placements.specs.Loop.{at, Timely};
+ghost use Rattle.call_placements.specs.Stack.{stack};
+ghost use Rattle.call_placements.specs.PlannerState.{at, Timely};
 
 // An answer without a plan.
 pub fn unplanned(answer: PlanAnswer) -> Planned

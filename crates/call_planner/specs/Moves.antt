@@ -16,15 +16,15 @@ use Rattle.paper_board.specs.declared.Board.{Board}
 use Rattle.paper_board.specs.Paper.View.{view}
 use Rattle.paper_board.specs.Paper.Limits.{Within, firstMinute, jobLimit}
 use Rattle.paper_rules.specs.Paper.Rules.{L}
-use Rattle.paper_board.specs.Tests.Decides.{holds, restated, retested}
+use Rattle.paper_board.specs.BoardTests.Decides.{holds, restated, retested}
 use Rattle.paper_board.specs.Paper.Tests.{valid}
 use Rattle.paper_plans.specs.Paper.Tries.{startAfter, inTime, ready, search}
 use Rattle.paper_plans.specs.ListLaws.{none-among}
 use Rattle.paper_plans.specs.OutcomeLaws.{add-zero, orElse-none}
 use Rattle.paper_plans.specs.Unplaced.{none-placed}
-use Rattle.call_placements.specs.Rest.{stack, stack-same, here, back, back-same, search-here, tried-all, not-placed, placed}
+use Rattle.call_placements.specs.Stack.{stack, stack-same, here, back, back-same, search-here, tried-all, not-placed, placed}
 use Rattle.call_placements.specs.Waiting.{order, Waiting, WaitingWord, waiting-members, least-first, no-members, waiting-placed, waiting-back, waitingCount, count-placed, some-waits}
-use Rattle.call_placements.specs.Loop.{free-at-first, free-after, Placement, at, timeAt, Placements, outcome, State}
+use Rattle.call_placements.specs.PlannerState.{free-at-first, free-after, Placement, at, timeAt, Placements, outcome, State}
 
 module _ (b : Board) (h : Within b) where
   -- at the start no job is placed

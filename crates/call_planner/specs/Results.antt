@@ -23,10 +23,10 @@ use Rattle.paper_plans.specs.Paper.Tries.{none, add}
 use Rattle.paper_plans.specs.Paper.Planner.{placedWord, startList, unplanned, answer}
 use Rattle.paper_plans.specs.ListLaws.{none-among, kept-at-most, range-length}
 use Rattle.paper_plans.specs.PlanLaws.{placed-bit, found-in-budget, none-in-budget, beyond-budget}
-use Rattle.paper_plans.specs.Reached.{last-and-before}
-use Rattle.call_placements.specs.Rest.{stack, members, back, tried-all, try-due, all-found}
+use Rattle.paper_plans.specs.SearchReaches.{last-and-before}
+use Rattle.call_placements.specs.Stack.{stack, members, back, tried-all, try-due, all-found}
 use Rattle.call_placements.specs.Waiting.{order, waiting-fits, waitingCount, waiting-members, no-members, some-waits, least-first}
-use Rattle.call_placements.specs.Loop.{at, Placements, outcome, State}
+use Rattle.call_placements.specs.PlannerState.{at, Placements, outcome, State}
 
 -- the jobs of the stack are valid
 stacked : (b : Board) (jobs lefts : List ℕ) (frees : List ℤ) (depth : ℕ) → Placements b jobs lefts frees depth

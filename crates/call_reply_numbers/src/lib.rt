@@ -6,7 +6,7 @@ use paper_entries::RowAnswer;
 use paper_plans::PlanAnswer;
 use paper_plans::Planned;
 ghost use mathlib.Core.Path.{_≡_};
-ghost use Rattle.call_reply_numbers.specs.Replies as said;
+ghost use Rattle.call_reply_numbers.specs.ReplyNumbers as said;
 
 // To an entry. Accepted: the number of the job added, or 0 where nothing was added. Otherwise the refusal's number.
 #[repr(C)]

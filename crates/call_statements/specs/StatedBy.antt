@@ -11,12 +11,12 @@ use Rattle.paper_board.specs.declared.facts.Fact.the-variants as Facts
 use Rattle.paper_board.specs.declared.facts.Side.the-variants as Sides
 use Rattle.paper_board.specs.Paper.Facts.{is-valid, is-invalid}
 use Rattle.paper_board.specs.Paper.Values.{factOf}
-use Rattle.paper_board.specs.Tests.Ranges.{time-moderate}
+use Rattle.paper_board.specs.BoardTests.Ranges.{time-moderate}
 use Rattle.paper_entries.specs.Paper.Entry.{Entry, addition, other, arc, mark, cut, number}
-use Rattle.paper_entries.specs.Paper.Gate.{checks, gate}
+use Rattle.paper_entries.specs.Paper.Checks.{checks, gate}
 use Rattle.paper_entries.specs.Paper.Enter.{raw, updateAll}
 use Rattle.paper_entries.specs.Allowed.{gate-allows}
-use Rattle.paper_entries.specs.Numbers.{pair-numbers, mark-numbers, cut-numbers}
+use Rattle.paper_entries.specs.CallNumbers.{pair-numbers, mark-numbers, cut-numbers}
 use Rattle.call_statements.specs.declared.Stated.{Stated}
 use Rattle.call_statements.specs.declared.Stated.the-variants.{Row, One, Two}
 use Rattle.call_statements.specs.Stated.{rawOf, Admissible}

@@ -8,7 +8,7 @@ use paper_entries::Entry;
 ghost use mathlib.Core.Path.{_≡_};
 ghost use mathlib.Core.Bool.{cond};
 ghost use lib.Dec.{eqb};
-ghost use Rattle.paper_entries.specs.Paper.Values.{entryOf};
+ghost use Rattle.paper_entries.specs.Paper.EntryOf.{entryOf};
 ghost use Rattle.call_statements.specs.StatedBy.{Passed, statedBy};
 
 // A job's row, or one fact, or two: a cut states a bound on either side.

@@ -19,7 +19,7 @@ use Rattle.ground_arithmetic.specs.Bools.{and-parts, refuted}
 use Rattle.paper_board.specs.declared.Board.{Board}
 use Rattle.paper_board.specs.Paper.View.{Live, Valid, view, rowOf}
 use Rattle.paper_board.specs.Paper.Limits.{jobLimit, Within}
-use Rattle.paper_board.specs.Tests.Live.{live-yes, valid-yes, valid-show}
+use Rattle.paper_board.specs.BoardTests.Live.{live-yes, valid-yes, valid-show}
 use Rattle.paper_rules.specs.Update.Filled.{filled, possibly, ArraysWithin}
 use Rattle.paper_rules.specs.Update.Strike.{strike}
 use Rattle.paper_rules.specs.Update.StrikeLaws.{strike-member, strike-other}

@@ -12,7 +12,7 @@ use borrow.Author.Count.{below-more}
 use borrow.Author.Tests.{eq-eqb, eqb-true}
 use Rattle.ground_sets.specs.Bit.{bit, width, union}
 use Rattle.ground_sets.specs.BitLaws.{bit-ext, bit-high, union-none, xor-none}
-use Rattle.paper_board.specs.Tests.Decides.{Decides, restated, eq}
+use Rattle.paper_board.specs.BoardTests.Decides.{Decides, restated, eq}
 use Rattle.engine_transposition.specs.Transpose.{Transposed}
 
 abbrev pub SameBits : ℕ → ℕ → Type 0

@@ -9,9 +9,9 @@ use Rattle.paper_board.specs.declared.Board.{Board}
 use Rattle.paper_board.specs.Paper.View.{View, Live, Arc, view}
 use Rattle.paper_board.specs.Paper.Facts.{is-arc}
 use Rattle.paper_board.specs.Paper.Limits.{Within}
-use Rattle.paper_rules.specs.Order.Laws.{arc-up}
+use Rattle.paper_rules.specs.Order.OrderLaws.{arc-up}
 use Rattle.paper_rules.specs.Inference.Infers.{Infers, r1, r3}
-use Rattle.paper_board.specs.Tests.Live.{live-show}
+use Rattle.paper_board.specs.BoardTests.Live.{live-show}
 use Rattle.paper_rules.specs.Update.Filled.{filled}
 use Rattle.paper_rules.specs.Update.Updates.{link, update}
 use Rattle.paper_rules.specs.Update.Reaches.{Reached, reached-self, reaches-then, further}

@@ -15,9 +15,9 @@ use Rattle.ground_arithmetic.specs.Bools.{refuted, by-test}
 use Rattle.ground_arithmetic.specs.Linear.{whole, plus}
 use Rattle.paper_board.specs.Paper.View.{Side}
 use Rattle.paper_board.specs.Paper.Limits.{jobLimit}
-use Rattle.paper_board.specs.Tests.Decides.{Decides, retested, _and_, negated, holds, eq}
+use Rattle.paper_board.specs.BoardTests.Decides.{Decides, retested, _and_, negated, holds, eq}
 use Rattle.engine_sums.specs.Sums.{boundAt, endAt, load, Sum, Exceeds, over, EndsBy, Pushes}
-use Rattle.engine_sums.specs.Laws.{load-none}
+use Rattle.engine_sums.specs.SumLaws.{load-none}
 use Rattle.engine_sums.specs.Single.{single}
 
 -- r has the jobs of the set w but k that are not in k's word

@@ -16,10 +16,10 @@ use Rattle.paper_rules.specs.Paper.Rules.{energy}
 use Rattle.paper_board.specs.Paper.Values.{sideOf, factOf}
 use Rattle.paper_rules.specs.Inference.Infers.{Infers, r45}
 use Rattle.paper_rules.specs.Inference.Forced.{valid-live}
-use Rattle.paper_board.specs.Tests.Ranges.{ranges}
-use Rattle.paper_board.specs.Tests.Bounds.{bound-time}
+use Rattle.paper_board.specs.BoardTests.Ranges.{ranges}
+use Rattle.paper_board.specs.BoardTests.BoundTime.{bound-time}
 use Rattle.engine_updates.specs.Applicable.{Timely}
-use Rattle.engine_precedence.specs.Bounds.{turned-moderate}
+use Rattle.engine_precedence.specs.ModerateTime.{moderate-time}
 
 module _ (b : Board) (within : Within b) where
   time : (s : Side) (j : ℕ) → Live (view b) j → IsTime (bound s (rowOf b j))
@@ -45,6 +45,6 @@ module _ (b : Board) (within : Within b) where
 
   pub timely : (f : Facts.Fact) → Infers (view b) (factOf f) → (Holds (view b) (factOf f) → ⊥) → Timely f
   timely (Facts.the-variants.Arc i k) _ _ = tt
-  timely (Facts.the-variants.Bound s j t) infers unshown = turned-moderate (sideOf s) t (bound-moderate (sideOf s) j _ infers unshown)
+  timely (Facts.the-variants.Bound s j t) infers unshown = moderate-time (sideOf s) t (bound-moderate (sideOf s) j _ infers unshown)
   timely (Facts.the-variants.Valid j) _ _ = tt
   timely (Facts.the-variants.Invalid j) _ _ = tt

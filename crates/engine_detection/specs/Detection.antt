@@ -13,9 +13,9 @@ use Rattle.ground_arithmetic.specs.Linear.{whole}
 use Rattle.paper_board.specs.declared.Board.{Board}
 use Rattle.paper_board.specs.Paper.View.{Live, view}
 use Rattle.paper_board.specs.Paper.Limits.{jobLimit}
-use Rattle.paper_board.specs.Tests.Decides.{retested, _and_, negated, holds, eq}
+use Rattle.paper_board.specs.BoardTests.Decides.{retested, _and_, negated, holds, eq}
 use Rattle.paper_rules.specs.Inference.Infers.{r3}
-use Rattle.paper_board.specs.Tests.Sets.{Subset}
+use Rattle.paper_board.specs.BoardTests.Sets.{Subset}
 use Rattle.engine_arcs.specs.Arcs.{Sound, sound-none, sound-link, sound-then}
 
 -- the arrays are the board's own

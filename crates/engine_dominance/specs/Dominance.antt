@@ -17,8 +17,8 @@ use Rattle.paper_board.specs.Paper.View.{View, Valid, Side, bound, Beyond, view
 use Rattle.paper_board.specs.Paper.Limits.{jobLimit}
 use Rattle.paper_board.specs.Paper.Values.{turned}
 use Rattle.paper_rules.specs.Inference.Infers.{Pushing}
-use Rattle.paper_board.specs.Tests.Sets.{Subset}
-use Rattle.engine_sums.specs.Exact.{timesOf, bound-is}
+use Rattle.paper_board.specs.BoardTests.Sets.{Subset}
+use Rattle.engine_sums.specs.RaiseExact.{timesOf, bound-is}
 use Rattle.engine_bound_beyond.specs.BoundBeyond.{pushing}
 use Rattle.engine_job_rules.specs.Settled.{Settled}
 use Rattle.engine_job_rules.specs.JobSearched.{wordsOf, SideRead, Represented, beyond-bit, pushing-bit}

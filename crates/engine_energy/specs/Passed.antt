@@ -17,7 +17,7 @@ use Rattle.ground_arithmetic.specs.Linear.{whole}
 use Rattle.ground_arithmetic.specs.Time.{lesser, lesser-left, lesser-right}
 use Rattle.paper_board.specs.Paper.View.{Side}
 use Rattle.paper_board.specs.Paper.Limits.{jobLimit, lastMinute}
-use Rattle.paper_board.specs.Tests.Bounds.{turned-time}
+use Rattle.paper_board.specs.BoardTests.BoundTime.{turned-time}
 use Rattle.engine_sums.specs.Sums.{boundAt, Times, LeastBound}
 
 -- z is the bound of a job of the set w that was passed, or still the last minute

@@ -24,7 +24,7 @@ use Rattle.paper_rules.specs.Paper.Rules.{E, D, L}
 use Rattle.paper_board.specs.Paper.Values.{turned}
 use Rattle.paper_rules.specs.Inference.Infers.{Infers, Obeys, r2, r6}
 use Rattle.paper_rules.specs.Inference.Forced.{forced, invalid-unless}
-use Rattle.paper_rules.specs.Order.Laws.{live-down, valid-up, bound-up, length-up}
+use Rattle.paper_rules.specs.Order.OrderLaws.{live-down, valid-up, bound-up, length-up}
 use Rattle.paper_rules.specs.Update.Compose.{extends-then}
 use Rattle.paper_rules.specs.Update.Updates.{update, exclude, invalidate, _andThen_}
 use Rattle.paper_rules.specs.Update.Updated.{updated}

@@ -18,11 +18,11 @@ use Rattle.paper_board.specs.Paper.Limits.{Within}
 use Rattle.paper_board.specs.Paper.Facts.{Fact, is-bound, is-invalid, Holds}
 use Rattle.paper_rules.specs.Paper.Rules.{E, D, L}
 use Rattle.paper_board.specs.Paper.Tests.{valid}
-use Rattle.paper_board.specs.Tests.Live.{roomy}
-use Rattle.paper_board.specs.Tests.Decides.{Decides, retested, _and_, holds, valid-is}
+use Rattle.paper_board.specs.BoardTests.Live.{roomy}
+use Rattle.paper_board.specs.BoardTests.Decides.{Decides, retested, _and_, holds, valid-is}
 use Rattle.paper_rules.specs.Inference.Infers.{Infers, r45, r6}
 use Rattle.engine_sums.specs.Sums.{Sum, boundAt}
-use Rattle.engine_sums.specs.Exact.{timesOf, bound-is, energy-is, sum-beyond, sum-of, exceeds-beyond}
+use Rattle.engine_sums.specs.RaiseExact.{timesOf, bound-is, energy-is, sum-beyond, sum-of, exceeds-beyond}
 use Rattle.paper_rules.specs.Inference.SumBeyond.{sum-pushes, pushing-sum}
 use Rattle.engine_bound_beyond.specs.BoundBeyond.{LastUnder, BoundBeyond, pushing}
 use Rattle.engine_findings.specs.Searched.{Searched, JobsObey}

@@ -17,11 +17,11 @@ use Rattle.paper_board.specs.declared.Board.{Board}
 use Rattle.paper_board.specs.Paper.View.{View, Live, Valid, Side, bound, Beyond, view, rowOf}
 use Rattle.paper_board.specs.Paper.Limits.{Within, IsTime, firstMinute}
 use Rattle.paper_rules.specs.Paper.Rules.{energy}
-use Rattle.paper_board.specs.Tests.Ranges.{ranges}
-use Rattle.paper_board.specs.Tests.Decides.{Decides, _and_, negated, holds, eq}
+use Rattle.paper_board.specs.BoardTests.Ranges.{ranges}
+use Rattle.paper_board.specs.BoardTests.Decides.{Decides, _and_, negated, holds, eq}
 use Rattle.paper_rules.specs.Inference.Infers.{Pushing}
-use Rattle.paper_board.specs.Tests.Bounds.{turned-time}
-use Rattle.engine_sums.specs.Exact.{times-within, bound-is}
+use Rattle.paper_board.specs.BoardTests.BoundTime.{turned-time}
+use Rattle.engine_sums.specs.RaiseExact.{times-within, bound-is}
 use Rattle.engine_findings.specs.Searched.{SideObeys}
 
 -- The valid jobs beyond j lie beyond a last one, but for some that stand apart. With all of these the last one ends by the bound of j, and

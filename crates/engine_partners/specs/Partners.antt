@@ -17,7 +17,7 @@ use Rattle.ground_arithmetic.specs.Bools.{refuted, is-true}
 use Rattle.ground_arithmetic.specs.Linear.{whole, plus, minus}
 use Rattle.ground_arithmetic.specs.Time.{lesser, lesser-left, lesser-right}
 use Rattle.paper_board.specs.Paper.Limits.{jobLimit}
-use Rattle.paper_board.specs.Tests.Decides.{Decides, retested, _and_, negated, holds, eq}
+use Rattle.paper_board.specs.BoardTests.Decides.{Decides, retested, _and_, negated, holds, eq}
 use Rattle.engine_sums.specs.Sums.{lengthAt}
 
 pub or-parts : (a b : Bool) → (a || b) ≡ true → (a ≡ true) ⊎ (b ≡ true)

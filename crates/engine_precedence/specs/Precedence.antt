@@ -20,17 +20,17 @@ use Rattle.paper_board.specs.Paper.Facts.{is-bound}
 use Rattle.paper_board.specs.Paper.Limits.{IsTime, Within}
 use Rattle.paper_board.specs.Paper.Values.{turned}
 use Rattle.paper_rules.specs.Inference.Infers.{Infers}
-use Rattle.paper_board.specs.Tests.Live.{live-show}
+use Rattle.paper_board.specs.BoardTests.Live.{live-show}
 use Rattle.paper_rules.specs.Update.Filled.{filled}
 use Rattle.paper_rules.specs.Update.Updates.{update, tighten}
 use Rattle.paper_rules.specs.Update.Reaches.{Reached, Reaches, reached-self, reaches-then, further}
 use Rattle.engine_sums.specs.Sums.{boundAt, lengthAt, Times, Lengths, Pushes}
-use Rattle.engine_sums.specs.Exact.{timesOf}
-use Rattle.engine_sums.specs.Laws.{turned-back, sum-range}
+use Rattle.engine_sums.specs.RaiseExact.{timesOf}
+use Rattle.engine_sums.specs.SumLaws.{turned-back, sum-range}
 use Rattle.engine_bound_beyond.specs.BoundBeyond.{pushing}
 use Rattle.engine_job_rules.specs.JobSearched.{wordsOf, beyond-bit, sum-infers}
 use Rattle.engine_exclusion.specs.Gone.{Gone, AllGone, Short, none-gone, only, both-gone, gone-before, gone-short}
-use Rattle.engine_precedence.specs.Bounds.{turned-moderate}
+use Rattle.engine_precedence.specs.ModerateTime.{moderate-time}
 
 -- a board's times on the other side than s
 abbrev fixedOf : Board → Side → List ℤ
@@ -170,7 +170,7 @@ pub pushed-moderate : (s : Side) {times lengths : List ℤ} (w j : ℕ) (t : ℤ
     → Pushes s times lengths w j (some (turned s t)) → Moderate t
 pushed-moderate s w j t hours work (sum, above) =
     let (low, high) = sum-range hours work sum in
-    turned-moderate s t (omega whole, omega whole)
+    moderate-time s t (omega whole, omega whole)
 
 -- a time stored among times
 pub times-set : (times : List ℤ) → Times times → (j : ℕ) (t : ℤ) → IsTime t → Times (set times j t)

@@ -13,7 +13,7 @@ use Rattle.paper_board.specs.Paper.View.{Live, Valid, early, late, view}
 use Rattle.paper_board.specs.Paper.Limits.{jobLimit}
 use Rattle.paper_rules.specs.Update.Filled.{filled}
 use Rattle.paper_rules.specs.Update.Reaches.{Reached, reaches-then}
-use Rattle.paper_board.specs.Tests.Sets.{subset-difference}
+use Rattle.paper_board.specs.BoardTests.Sets.{subset-difference}
 use Rattle.engine_exclusion.specs.Gone.{AllGone, Crossed, Unfit, none-gone, both-gone, gone-before, crossed-gone, unfit-gone}
 use Rattle.engine_arcs.specs.Arcs.{Sound}
 use Rattle.engine_detection.specs.Detection.{AllLive}

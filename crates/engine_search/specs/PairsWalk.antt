@@ -19,7 +19,7 @@ use Rattle.paper_board.specs.Paper.View.{View, Live, Side, view}
 use Rattle.paper_board.specs.Paper.Facts.{Fact}
 use Rattle.paper_board.specs.Paper.Limits.{jobLimit, Within}
 use Rattle.paper_board.specs.Paper.Tests.{live}
-use Rattle.paper_board.specs.Tests.Decides.{Decides, retested, _and_, negated, holds, live-is}
+use Rattle.paper_board.specs.BoardTests.Decides.{Decides, retested, _and_, negated, holds, live-is}
 use Rattle.paper_rules.specs.Inference.Infers.{Obeys}
 use Rattle.engine_job_rules.specs.JobSearched.{JobRead, JobSettled}
 use Rattle.engine_job_rules.specs.JobSearched as jobs
@@ -27,8 +27,8 @@ use Rattle.engine_findings.specs.Searched.{Searched, PairObeys}
 use Rattle.engine_job_rules.specs.Settled.{Settled}
 use Rattle.engine_search.specs.declared.Pair.{Pair}
 use Rattle.engine_search.specs.declared.Pair.the-variants.{None, At}
-use Rattle.engine_partners.specs.Rows.{RowRead}
-use Rattle.engine_partners.specs.Settled.{PairsSettled, RowSettled, settled-obey}
+use Rattle.engine_partners.specs.RowRead.{RowRead}
+use Rattle.engine_partners.specs.PairSettled.{PairsSettled, RowSettled, settled-obey}
 
 -- the numbers and words are those of the board, `lives` and `valids` its live jobs and its valid jobs
 pub record Read (b : Board) (lives valids : ℕ) (earliest latest lengths : List ℤ) (before after : List ℕ) : Type 0 where

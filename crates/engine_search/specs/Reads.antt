@@ -6,7 +6,7 @@ use Rattle.paper_board.specs.declared.Board.{Board}
 use Rattle.paper_board.specs.Paper.View.{early, late}
 use Rattle.paper_board.specs.Paper.Limits.{Within}
 use Rattle.engine_sums.specs.Sums.{Times, Lengths}
-use Rattle.engine_sums.specs.Exact.{times-within, lengths-within}
+use Rattle.engine_sums.specs.RaiseExact.{times-within, lengths-within}
 use Rattle.engine_marks.specs.Marked.{marked, unmarked, bit-valid, bit-live}
 use Rattle.engine_search.specs.PairsWalk.{Read}
 

@@ -10,8 +10,8 @@ use Rattle.paper_board.specs.declared.Board.{Board}
 use Rattle.paper_board.specs.Paper.View.{Valid, Arc, view}
 use Rattle.paper_board.specs.Paper.Facts.{is-arc}
 use Rattle.paper_board.specs.Paper.Limits.{jobLimit, Within}
-use Rattle.paper_board.specs.Tests.Decides.{Decides, retested, _and_, negated, holds, eq}
-use Rattle.paper_board.specs.Tests.Ranges.{after-fits}
+use Rattle.paper_board.specs.BoardTests.Decides.{Decides, retested, _and_, negated, holds, eq}
+use Rattle.paper_board.specs.BoardTests.Ranges.{after-fits}
 use Rattle.paper_rules.specs.Inference.Infers.{Infers, r1}
 use Rattle.paper_rules.specs.Update.Reaches.{Reached}
 use Rattle.engine_arcs.specs.Arcs.{withArcs, Sound, arc-stays, sound-link, sound-then}

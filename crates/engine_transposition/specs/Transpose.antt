@@ -15,8 +15,8 @@ use Rattle.ground_sets.specs.Bit.{bit, width, intersection}
 use Rattle.ground_sets.specs.BitLaws.{bit-xor, bit-intersection, bit-shift, bit-left, bit-left-low, bit-kept}
 use Rattle.ground_arithmetic.specs.Bools.{refuted, is-false, by-test}
 use Rattle.paper_board.specs.Paper.Tests.{implies}
-use Rattle.paper_board.specs.Tests.Limits.{all}
-use Rattle.paper_board.specs.Tests.Decides.{Decides, restated, holds, negated, implied, every, _and_, le, lt, eq}
+use Rattle.paper_board.specs.BoardTests.WithinLimits.{all}
+use Rattle.paper_board.specs.BoardTests.Decides.{Decides, restated, holds, negated, implied, every, _and_, le, lt, eq}
 
 -- ---- masks
 

@@ -4,7 +4,7 @@ use mathlib.Core.Bool.{Bool, true, false, _&&_}
 use mathlib.Core.Option.{Option, none, some}
 use Rattle.paper_board.specs.declared.Board.{Board}
 use Rattle.paper_board.specs.Paper.View.{view}
-use Rattle.paper_board.specs.Tests.Limits.{withinLimits, booksLimits}
+use Rattle.paper_board.specs.BoardTests.WithinLimits.{withinLimits, booksLimits}
 use Rattle.paper_board.specs.Paper.Facts.{Fact}
 use Rattle.paper_closure.specs.Find.{find}
 

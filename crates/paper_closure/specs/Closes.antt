@@ -11,7 +11,7 @@ use Rattle.paper_board.specs.Paper.View.{Valid, view}
 use Rattle.paper_board.specs.Paper.Facts.{Fact, Holds}
 use Rattle.paper_rules.specs.Inference.Infers.{Obeys}
 use Rattle.paper_board.specs.Paper.Limits.{Within}
-use Rattle.paper_rules.specs.Order.Laws.{holds-up}
+use Rattle.paper_rules.specs.Order.OrderLaws.{holds-up}
 use Rattle.paper_rules.specs.Inference.Forced.{forced, valid-live}
 use Rattle.paper_rules.specs.Update.Extension.{above-self, Extends}
 use Rattle.paper_rules.specs.Update.Compose.{extends-then, one-outcome}

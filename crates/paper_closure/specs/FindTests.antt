@@ -10,8 +10,8 @@ use Rattle.ground_arithmetic.specs.Linear.{whole}
 use Rattle.paper_board.specs.Paper.View.{View, Live, Valid, Arc, Side, early, late, bound, Beyond}
 use Rattle.paper_rules.specs.Paper.Rules.{E, D, L}
 use Rattle.paper_board.specs.Paper.Tests.{live, valid}
-use Rattle.paper_board.specs.Tests.Live.{roomy}
-use Rattle.paper_board.specs.Tests.Decides.{Decides, _and_, negated, holds, eq, live-is, valid-is, at-most, earlier, not-at-most}
+use Rattle.paper_board.specs.BoardTests.Live.{roomy}
+use Rattle.paper_board.specs.BoardTests.Decides.{Decides, _and_, negated, holds, eq, live-is, valid-is, at-most, earlier, not-at-most}
 use Rattle.paper_closure.specs.Find.{beyond, tooLate, joined, pushers, pushed}
 use Rattle.paper_closure.specs.Search.{some-below}
 

@@ -13,4 +13,4 @@ pub mod Closes
 pub mod Stepping
 pub mod ClosureLeast
 -- check 0 holds exactly of the closed boards
-pub mod Checked
+pub mod PassesClosed

@@ -8,7 +8,7 @@ use native.Mathlib.Omega.{arith}
 use borrow.Author.Count.{below-more}
 use Rattle.ground_arithmetic.specs.Bools.{clash, refuted}
 use Rattle.paper_board.specs.Paper.Facts.{Fact}
-use Rattle.paper_board.specs.Tests.Decides.{Decides}
+use Rattle.paper_board.specs.BoardTests.Decides.{Decides}
 use Rattle.paper_closure.specs.Find.{guard, _orElse_, first, any}
 
 -- whatever o finds satisfies P

@@ -23,16 +23,16 @@ use Rattle.paper_board.specs.Paper.Parts.{withBooks, withTally}
 use Rattle.paper_rules.specs.Paper.Rules.{E, D}
 use Rattle.paper_rules.specs.Paper.Schedules.{Placing, Schedule}
 use Rattle.paper_board.specs.Paper.View.{View, Live, Valid, Invalid, Arc, view}
-use Rattle.paper_entries.specs.Paper.Answers.{no-number, replyOf, shows-row, rowReplyOf, shows-pair, pairReplyOf}
+use Rattle.paper_entries.specs.Paper.Replies.{no-number, replyOf, shows-row, rowReplyOf, shows-pair, pairReplyOf}
 use Rattle.paper_entries.specs.Paper.Enter.{acceptance, enter}
 use Rattle.paper_entries.specs.Paper.Entry.{Statement, Entry, other, number, entries, withEntry}
-use Rattle.paper_entries.specs.Paper.Exact.{Outcome}
-use Rattle.paper_entries.specs.Paper.Gate.{checks, gate}
+use Rattle.paper_entries.specs.Paper.Outcome.{Outcome}
+use Rattle.paper_entries.specs.Paper.Checks.{checks, gate}
 use Rattle.paper_entries.specs.Paper.Looking as Looking
 use Rattle.paper_entries.specs.Paper.Sequence.{Call, outcome, after, kept, accepted, impossibles, Each, finalBoard, acceptedBy}
 use Rattle.paper_entries.specs.Rearranged.{same-swapped, same-repeated}
-use Rattle.paper_plans.specs.Paper.Answers.{plan-found, plan-none, plan-spent, planReplyOf}
-use Rattle.paper_plans.specs.Paper.Exact.{IsBudget, triesTaken, ending}
+use Rattle.paper_plans.specs.Paper.PlanReply.{plan-found, plan-none, plan-spent, planReplyOf}
+use Rattle.paper_plans.specs.Paper.WithinBudget.{IsBudget, triesTaken, ending}
 use Rattle.paper_plans.specs.Paper.Planner.{validJobs, plan}
 use Rattle.paper_plans.specs.Paper.Tries.{tries}
 use Rattle.paper_requests.specs.Paper.Requests as Requests

@@ -22,17 +22,17 @@ use Rattle.paper_rules.specs.Paper.Rules.{E}
 use Rattle.paper_rules.specs.Paper.Schedules.{Placing, Placed, Schedule}
 use Rattle.paper_board.specs.Paper.View.{View, Arc, view, rowOf}
 use Rattle.paper_rules.specs.Order.Empty.{within-emptyBooks}
-use Rattle.paper_rules.specs.Update.Limits.{within-tally}
+use Rattle.paper_rules.specs.Update.StoreWithin.{within-tally}
 use Rattle.paper_entries.specs.declared.Answer.the-variants as Answers
 use Rattle.paper_entries.specs.Answered.{answered-impossible}
-use Rattle.paper_entries.specs.Paper.Answers.{shows-row, rowReplyOf, shows-pair, pairReplyOf}
+use Rattle.paper_entries.specs.Paper.Replies.{shows-row, rowReplyOf, shows-pair, pairReplyOf}
 use Rattle.paper_entries.specs.Paper.Enter.{counted, enter}
 use Rattle.paper_entries.specs.Paper.Entry.{arc, entries, other, withEntry}
-use Rattle.paper_entries.specs.Paper.Exact.{Outcome}
+use Rattle.paper_entries.specs.Paper.Outcome.{Outcome}
 use Rattle.paper_entries.specs.Paper.Looking as Looking
 use Rattle.paper_entries.specs.Paper.Sequence.{kept, Each, finalBoard, acceptedBy}
-use Rattle.paper_plans.specs.Paper.Answers.{plan-found, plan-none, plan-spent, planReplyOf}
-use Rattle.paper_plans.specs.Paper.Exact.{IsBudget, taken, triesTaken, ending}
+use Rattle.paper_plans.specs.Paper.PlanReply.{plan-found, plan-none, plan-spent, planReplyOf}
+use Rattle.paper_plans.specs.Paper.WithinBudget.{IsBudget, taken, triesTaken, ending}
 use Rattle.paper_plans.specs.Paper.Planner as Planner
 use Rattle.paper_plans.specs.Paper.Tries as Tries
 use Rattle.paper_plans.specs.Paper.Tries.{planOf}

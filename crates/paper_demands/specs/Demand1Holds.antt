@@ -13,15 +13,15 @@ use Rattle.paper_board.specs.declared.Board.{Board}
 use Rattle.paper_board.specs.declared.Refusal.{Refusal}
 use Rattle.paper_board.specs.Paper.Refusals.{numberOf}
 use Rattle.paper_closure.specs.Check.{passes}
-use Rattle.paper_closure.specs.Checked.{passes-closed}
+use Rattle.paper_closure.specs.PassesClosed.{passes-closed}
 use Rattle.paper_entries.specs.declared.Answer.{Answer}
 use Rattle.paper_entries.specs.declared.Answer.the-variants as Answers
 use Rattle.paper_entries.specs.Answered.{lines, gate-line}
 use Rattle.paper_entries.specs.Exactly.{refused-board}
-use Rattle.paper_entries.specs.Paper.Answers.{no-number, replyOf}
+use Rattle.paper_entries.specs.Paper.Replies.{no-number, replyOf}
 use Rattle.paper_entries.specs.Paper.Enter.{counted, enter}
 use Rattle.paper_entries.specs.Paper.Entry.{arc, mark, cut, Entry, addition, other}
-use Rattle.paper_entries.specs.Paper.Gate.{gate}
+use Rattle.paper_entries.specs.Paper.Checks.{gate}
 use Rattle.paper_plans.specs.Paper.Lists.{among}
 use Rattle.paper_requests.specs.Paper.Requests.{Request, entry, row, pair, plan, Sort, an-addition, an-arc, a-mark, a-cut, a-row, a-pair, a-plan, sortOf, refusalsOf, checksOf, refusal, boardAfter}
 use Rattle.paper_demands.specs.Demands.{InOrder, Demand1}

@@ -12,13 +12,13 @@ use Rattle.paper_rules.specs.Paper.Entries.{Entries, shown}
 use Rattle.paper_board.specs.Paper.Limits.{BooksWithin}
 use Rattle.paper_board.specs.Paper.View.{view}
 use Rattle.paper_closure.specs.Check.{passes}
-use Rattle.paper_closure.specs.Checked.{passes-closed, obeys-passes}
+use Rattle.paper_closure.specs.PassesClosed.{passes-closed, obeys-passes}
 use Rattle.paper_entries.specs.declared.Entered.{Entered}
 use Rattle.paper_entries.specs.Exactly.{outcome-exactly}
-use Rattle.paper_entries.specs.Paper.Answers.{replyOf}
+use Rattle.paper_entries.specs.Paper.Replies.{replyOf}
 use Rattle.paper_entries.specs.Paper.Enter.{acceptance, enter}
 use Rattle.paper_entries.specs.Paper.Entry.{Entry, entries, withEntry}
-use Rattle.paper_entries.specs.Paper.Exact.{Outcome, by-table, impossible, accepted}
+use Rattle.paper_entries.specs.Paper.Outcome.{Outcome, by-table, impossible, accepted}
 use Rattle.paper_entries.specs.Paper.Sequence.{Call, finalBoard, acceptedBy}
 use Rattle.paper_entries.specs.Reached.{Reached}
 use Rattle.paper_entries.specs.Stepped.{outcome, reached-shown}

@@ -22,12 +22,12 @@ use Rattle.paper_rules.specs.Paper.Schedules.{Placing, Schedule}
 use Rattle.paper_board.specs.Paper.View.{View, Live, Valid, Arc, view}
 use Rattle.paper_rules.specs.Schedule.Boards.{least-keeps, contradiction-unscheduled}
 use Rattle.paper_closure.specs.Check.{passes}
-use Rattle.paper_closure.specs.Checked.{passes-closed, passes-least, obeys-passes, empty-passes}
+use Rattle.paper_closure.specs.PassesClosed.{passes-closed, passes-least, obeys-passes, empty-passes}
 use Rattle.paper_entries.specs.Answered.{answered-impossible}
 use Rattle.paper_entries.specs.HandedIn.{admissible-shown}
 use Rattle.paper_entries.specs.Listed.{agree-snoc, agreed}
 use Rattle.paper_entries.specs.Orderless.{least-orderless}
-use Rattle.paper_entries.specs.Paper.Answers.{no-number, replyOf}
+use Rattle.paper_entries.specs.Paper.Replies.{no-number, replyOf}
 use Rattle.paper_entries.specs.Paper.Enter.{enter}
 use Rattle.paper_entries.specs.Paper.Entry.{Entry, number, entries}
 use Rattle.paper_entries.specs.Paper.Sequence.{Call, finalBoard}
@@ -35,8 +35,8 @@ use Rattle.paper_entries.specs.Played.{Held, admissible-snoc, each-held}
 use Rattle.paper_entries.specs.Stepped.{step, outcome, reached-least}
 use Rattle.paper_entries.specs.Tallied.{tallied}
 use Rattle.paper_plans.specs.Ends.{ending-spent, ending-found, ending-none, plan-ending, found-schedule, none-scheduled}
-use Rattle.paper_plans.specs.Paper.Answers.{plan-none, planReplyOf}
-use Rattle.paper_plans.specs.Paper.Exact.{IsBudget, taken, triesTaken, ending}
+use Rattle.paper_plans.specs.Paper.PlanReply.{plan-none, planReplyOf}
+use Rattle.paper_plans.specs.Paper.WithinBudget.{IsBudget, taken, triesTaken, ending}
 use Rattle.paper_plans.specs.Paper.Planner.{validJobs, plan}
 use Rattle.paper_plans.specs.Paper.Tries.{Outcome, found, none, tries}
 use Rattle.paper_demands.specs.Demands.{InOrder, PlanFound, PlanEnds, Demand3}

@@ -16,14 +16,14 @@ use Rattle.paper_rules.specs.Paper.Closed.{Closed, LeastClosed, Contradiction}
 use Rattle.paper_rules.specs.Paper.Schedules.{Placing, Schedule, Keeps}
 use Rattle.paper_board.specs.Paper.Equality.{Same}
 use Rattle.paper_entries.specs.Paper.Entry.{Entry, number, entries, SameEntries, withEntry}
-use Rattle.paper_entries.specs.Paper.Gate.{checks, gate}
+use Rattle.paper_entries.specs.Paper.Checks.{checks, gate}
 use Rattle.paper_entries.specs.Paper.Enter.{acceptance, counted, enter}
-use Rattle.paper_entries.specs.Paper.Answers.{no-number, replyOf, rowReplyOf, pairReplyOf}
-use Rattle.paper_entries.specs.Paper.Exact.{Outcome}
+use Rattle.paper_entries.specs.Paper.Replies.{no-number, replyOf, rowReplyOf, pairReplyOf}
+use Rattle.paper_entries.specs.Paper.Outcome.{Outcome}
 use Rattle.paper_entries.specs.Paper.Looking as Looking
 use Rattle.paper_entries.specs.Paper.Sequence.{Call, outcome, finalBoard, acceptedBy, impossibles, Each}
-use Rattle.paper_plans.specs.Paper.Answers.{plan-found, plan-none, plan-spent, planReplyOf}
-use Rattle.paper_plans.specs.Paper.Exact.{IsBudget, triesTaken, ending}
+use Rattle.paper_plans.specs.Paper.PlanReply.{plan-found, plan-none, plan-spent, planReplyOf}
+use Rattle.paper_plans.specs.Paper.WithinBudget.{IsBudget, triesTaken, ending}
 use Rattle.paper_plans.specs.Paper.Tries as Tries
 use Rattle.paper_plans.specs.Paper.Tries.{planOf, tries}
 use Rattle.paper_plans.specs.Paper.Planner as Planner

@@ -15,12 +15,12 @@ use Rattle.paper_board.specs.declared.Board.{Board}
 use Rattle.paper_board.specs.Paper.Tests.{live}
 use Rattle.paper_board.specs.Paper.View.{View, view, arcOf}
 use Rattle.paper_rules.specs.Paper.Rules.{E, D}
-use Rattle.paper_board.specs.Tests.Live.{live-yes, live-show}
+use Rattle.paper_board.specs.BoardTests.Live.{live-yes, live-show}
 use Rattle.paper_closure.specs.Check.{passes}
-use Rattle.paper_closure.specs.Checked.{passes-within}
-use Rattle.paper_entries.specs.Lines.{no-line, unmet}
-use Rattle.paper_entries.specs.Paper.Answers.{rowReplyOf, pairReplyOf}
-use Rattle.paper_entries.specs.Paper.Gate.{isJob, jobCheck, pairChecks, gate}
+use Rattle.paper_closure.specs.PassesClosed.{passes-within}
+use Rattle.paper_entries.specs.CheckLines.{no-line, unmet}
+use Rattle.paper_entries.specs.Paper.Replies.{rowReplyOf, pairReplyOf}
+use Rattle.paper_entries.specs.Paper.Checks.{isJob, jobCheck, pairChecks, gate}
 use Rattle.paper_entries.specs.Paper.Looking.{row, pairShown, pair}
 use Rattle.paper_demands.specs.Paper.Views.{RowShows, Arcs, no-arc, forth, back, both, Gap, PairShows}
 

@@ -16,9 +16,9 @@ use Rattle.paper_board.specs.Paper.View.{Side}
 use Rattle.paper_board.specs.Paper.Facts.{Fact, is-bound, is-valid, is-invalid, Known}
 use Rattle.paper_board.specs.Paper.Limits.{Fits, jobLimit}
 use Rattle.paper_entries.specs.Paper.Entry.{Statement, arc, mark, cut, Entry, addition, other, number, addedRow, stated}
-use Rattle.paper_entries.specs.Paper.Gate.{Check, line, isJob, statementChecks, checks, gate}
-use Rattle.paper_entries.specs.Lines.{passed}
-use Rattle.paper_entries.specs.Numbers.{pair-numbers, mark-numbers, cut-numbers, addition-numbers}
+use Rattle.paper_entries.specs.Paper.Checks.{Check, line, isJob, statementChecks, checks, gate}
+use Rattle.paper_entries.specs.CheckLines.{passed}
+use Rattle.paper_entries.specs.CallNumbers.{pair-numbers, mark-numbers, cut-numbers, addition-numbers}
 
 -- facts about jobs of a board of n jobs, one and all
 abbrev pub KnownAll : ℕ → List Fact → Type 0

@@ -13,10 +13,10 @@ use Rattle.paper_board.specs.declared.Refusal.{Refusal}
 use Rattle.paper_board.specs.Paper.Refusals.{numberOf}
 use Rattle.paper_entries.specs.declared.Entered.{Entered}
 use Rattle.paper_entries.specs.Paper.Entry.{Statement, arc, mark, cut, Entry, addition, other}
-use Rattle.paper_entries.specs.Paper.Gate.{Check, statementChecks, checks, gate}
+use Rattle.paper_entries.specs.Paper.Checks.{Check, statementChecks, checks, gate}
 use Rattle.paper_entries.specs.Paper.Enter.{acceptance}
-use Rattle.paper_entries.specs.Paper.Answers.{no-number, replyOf}
-use Rattle.paper_entries.specs.Paper.Exact.{Ends, by-table, impossible, accepted}
+use Rattle.paper_entries.specs.Paper.Replies.{no-number, replyOf}
+use Rattle.paper_entries.specs.Paper.Outcome.{Ends, by-table, impossible, accepted}
 
 -- every line of a list of checks has a refusal that passes a test
 unfoldable pub lines : (Refusal → Bool) → List Check → Bool

@@ -12,7 +12,7 @@ use Rattle.paper_board.specs.declared.Refusal.{Refusal}
 use Rattle.paper_board.specs.Paper.Refusals.{numberOf}
 use Rattle.paper_board.specs.Paper.Tests.{between}
 use Rattle.paper_entries.specs.Paper.Entry.{arc, mark, cut, Entry, addition, other}
-use Rattle.paper_entries.specs.Paper.Gate.{checks, gate}
+use Rattle.paper_entries.specs.Paper.Checks.{checks, gate}
 
 isNumber : Option Refusal → ℕ → Bool
 isNumber none n = false

@@ -18,10 +18,10 @@ use Rattle.paper_closure.specs.Check.{passes}
 use Rattle.paper_entries.specs.declared.Answer.the-variants as Answers
 use Rattle.paper_entries.specs.declared.Entered.{Entered}
 use Rattle.paper_entries.specs.Paper.Entry.{Entry, withEntry}
-use Rattle.paper_entries.specs.Paper.Gate.{checks, gate}
+use Rattle.paper_entries.specs.Paper.Checks.{checks, gate}
 use Rattle.paper_entries.specs.Paper.Enter.{counted, enter}
-use Rattle.paper_entries.specs.Paper.Answers.{no-number, replyOf}
-use Rattle.paper_entries.specs.Paper.Exact.{Outcome, by-table, impossible, accepted}
+use Rattle.paper_entries.specs.Paper.Replies.{no-number, replyOf}
+use Rattle.paper_entries.specs.Paper.Outcome.{Outcome, by-table, impossible, accepted}
 use Rattle.paper_entries.specs.Answered.{by-table-middle, not-refused}
 use Rattle.paper_entries.specs.Stepped.{enter-checked, enter-refused}
 

@@ -13,12 +13,12 @@ use Rattle.paper_rules.specs.Paper.Schedules.{Placing, Schedule, Keeps}
 use Rattle.paper_rules.specs.Inference.LeastClosed.{closed-least}
 use Rattle.paper_rules.specs.Schedule.Boards.{least-keeps, contradiction-unscheduled}
 use Rattle.paper_closure.specs.Check.{passes}
-use Rattle.paper_closure.specs.Checked.{passes-within}
-use Rattle.paper_entries.specs.Paper.Answers.{no-number, replyOf}
+use Rattle.paper_closure.specs.PassesClosed.{passes-within}
+use Rattle.paper_entries.specs.Paper.Replies.{no-number, replyOf}
 use Rattle.paper_entries.specs.declared.Entered.{Entered}
 use Rattle.paper_entries.specs.Paper.Entry.{Entry, withEntry}
 use Rattle.paper_entries.specs.Paper.Enter.{enter}
-use Rattle.paper_entries.specs.Paper.Exact.{Outcome, by-table, impossible, accepted}
+use Rattle.paper_entries.specs.Paper.Outcome.{Outcome, by-table, impossible, accepted}
 use Rattle.paper_entries.specs.Allowed.{gate-allows}
 use Rattle.paper_entries.specs.Answered.{answered-impossible}
 use Rattle.paper_entries.specs.Reached.{admissible-with}

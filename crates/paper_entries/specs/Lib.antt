@@ -3,8 +3,8 @@ pub mod Paper
 -- that `enter` is exact, call by call and over a sequence
 pub mod Made
 pub mod Listed
-pub mod Lines
-pub mod Numbers
+pub mod CheckLines
+pub mod CallNumbers
 pub mod Allowed
 pub mod Raw
 pub mod Settles

@@ -12,7 +12,7 @@ use Rattle.paper_board.specs.Paper.View.{Row, View}
 use Rattle.paper_board.specs.Paper.Facts.{Fact, Holds}
 use Rattle.paper_rules.specs.Paper.Entries.{Entries, Shown, AtLeast, _⊑_}
 use Rattle.paper_rules.specs.Update.Extension.{HasRow}
-use Rattle.paper_rules.specs.Order.Laws.{shown-trans, holds-up, below-up}
+use Rattle.paper_rules.specs.Order.OrderLaws.{shown-trans, holds-up, below-up}
 use Rattle.paper_entries.specs.Paper.Entry.{Entry, addition, other, addedRow, stated, addRow, stating, withEntry}
 
 -- facts that hold one and all

@@ -7,14 +7,14 @@ use Rattle.paper_board.specs.declared.Board.{Board}
 use Rattle.paper_rules.specs.Paper.Entries.{Admissible}
 use Rattle.paper_entries.specs.declared.Entered.{Entered}
 use Rattle.paper_entries.specs.Paper.Entry.{Entry, addition, other, entries, withEntry}
-use Rattle.paper_entries.specs.Paper.Gate.{checks, gate}
+use Rattle.paper_entries.specs.Paper.Checks.{checks, gate}
 use Rattle.paper_entries.specs.Listed.{agree-snoc, agree-sym}
 use Rattle.paper_entries.specs.Allowed.{Allowed, gate-allows}
 use Rattle.paper_entries.specs.Paper.Enter.{acceptance, enter}
 use Rattle.paper_entries.specs.Reached.{Reached, admissible-with, admissible-agree, reached-agree, reached-counted}
 use Rattle.paper_entries.specs.Stepped.{Step, step}
-use Rattle.paper_entries.specs.Paper.Exact.{by-table, impossible, accepted}
-use Rattle.paper_entries.specs.Paper.Answers.{replyOf}
+use Rattle.paper_entries.specs.Paper.Outcome.{by-table, impossible, accepted}
+use Rattle.paper_entries.specs.Paper.Replies.{replyOf}
 use Rattle.paper_entries.specs.Paper.Sequence.{Call, outcome, after, kept, Each}
 use Rattle.paper_entries.specs.Paper.Sequence
 

@@ -7,7 +7,7 @@ use Rattle.paper_board.specs.Paper.View.{View, view}
 use Rattle.paper_board.specs.Paper.Facts.{Fact, Holds, Known}
 use Rattle.paper_rules.specs.Paper.Entries.{shown}
 use Rattle.paper_board.specs.Paper.Limits.{Within}
-use Rattle.paper_rules.specs.Order.Laws.{holds-up}
+use Rattle.paper_rules.specs.Order.OrderLaws.{holds-up}
 use Rattle.paper_rules.specs.Update.Extension.{above-self, Extends}
 use Rattle.paper_rules.specs.Update.Compose.{extends-then}
 use Rattle.paper_rules.specs.Update.Updates.{update}

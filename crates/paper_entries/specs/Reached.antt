@@ -16,8 +16,8 @@ use Rattle.paper_rules.specs.Inference.Known.{known-more}
 use Rattle.paper_rules.specs.Paper.Entries.{Entries, Admissible, Shows, shown}
 use Rattle.paper_board.specs.Paper.Limits.{jobLimit, Fits, Within, BooksWithin}
 use Rattle.paper_rules.specs.Order.Leastness.{Below, Impossible}
-use Rattle.paper_rules.specs.Order.Laws.{atLeast-up}
-use Rattle.paper_rules.specs.Update.Limits.{within-books, within-tally}
+use Rattle.paper_rules.specs.Order.OrderLaws.{atLeast-up}
+use Rattle.paper_rules.specs.Update.StoreWithin.{within-books, within-tally}
 use Rattle.paper_entries.specs.Paper.Entry.{Entry, addition, other, addedRow, stated, addRow, stating, withEntry}
 use Rattle.paper_entries.specs.Made.{ShowsEntry, with-split, with-join, with-jobs}
 use Rattle.paper_entries.specs.Listed.{Agree, agree-sym, agreed}

@@ -13,15 +13,15 @@ use Rattle.paper_rules.specs.Update.Extension.{above-self}
 use Rattle.paper_rules.specs.Inference.Agrees.{obeys-rules}
 use Rattle.paper_rules.specs.Inference.LeastClosed.{least-closed}
 use Rattle.paper_closure.specs.Check.{passes}
-use Rattle.paper_closure.specs.Checked.{passes-within, passes-books, passes-obeys, obeys-passes}
+use Rattle.paper_closure.specs.PassesClosed.{passes-within, passes-books, passes-obeys, obeys-passes}
 use Rattle.paper_entries.specs.declared.Entered.{Entered}
 use Rattle.paper_entries.specs.Paper.Entry.{Entry, withEntry}
-use Rattle.paper_entries.specs.Paper.Gate.{checks, gate}
+use Rattle.paper_entries.specs.Paper.Checks.{checks, gate}
 use Rattle.paper_entries.specs.Allowed.{gate-allows}
 use Rattle.paper_entries.specs.Paper.Enter.{closureWith, acceptance, refused, concluded, judged, enter}
 use Rattle.paper_entries.specs.Settles.{SettledTo, settles}
 use Rattle.paper_entries.specs.Reached.{Reached, reached-with, impossible-with}
-use Rattle.paper_entries.specs.Paper.Exact.{Ends, Outcome, by-table, impossible, accepted}
+use Rattle.paper_entries.specs.Paper.Outcome.{Ends, Outcome, by-table, impossible, accepted}
 
 -- the outcome in the form that passes to the next call
 abbrev pub Step : Entries → Board → Entry → Entered → Type 0

@@ -13,16 +13,16 @@ use Rattle.paper_board.specs.Paper.Facts.{is-arc, is-bound, Holds}
 use Rattle.paper_rules.specs.Paper.Entries.{Entries, shown}
 use Rattle.paper_rules.specs.Paper.Closed.{Least}
 use Rattle.paper_rules.specs.Inference.LeastClosed.{closed-least}
-use Rattle.paper_rules.specs.Order.Laws.{holds-up}
+use Rattle.paper_rules.specs.Order.OrderLaws.{holds-up}
 use Rattle.paper_rules.specs.Order.Unique.{least-unique, equal-boards}
 use Rattle.paper_closure.specs.Check.{passes}
-use Rattle.paper_closure.specs.Checked.{passes-within, passes-least}
+use Rattle.paper_closure.specs.PassesClosed.{passes-within, passes-least}
 use Rattle.paper_entries.specs.declared.Answer.the-variants as Answers
 use Rattle.paper_entries.specs.declared.Entered.{Entered}
 use Rattle.paper_entries.specs.Paper.Entry.{Statement, arc, cut, Entry, other, number, stated, withEntry}
-use Rattle.paper_entries.specs.Paper.Gate.{statementChecks, gate}
+use Rattle.paper_entries.specs.Paper.Checks.{statementChecks, gate}
 use Rattle.paper_entries.specs.Paper.Enter.{enter}
-use Rattle.paper_entries.specs.Paper.Exact.{Outcome, by-table, impossible, accepted}
+use Rattle.paper_entries.specs.Paper.Outcome.{Outcome, by-table, impossible, accepted}
 use Rattle.paper_entries.specs.Paper.Sequence.{Call, after}
 use Rattle.paper_entries.specs.Made.{HoldAll, with-split, with-join}
 use Rattle.paper_entries.specs.Allowed.{KnownAll, gate-allows, gate-more}

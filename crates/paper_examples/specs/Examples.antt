@@ -15,23 +15,23 @@ use Rattle.paper_board.specs.declared.Board.{Board}
 use Rattle.paper_board.specs.Paper.Limits.{emptyBoard}
 use Rattle.paper_board.specs.Paper.Parts.{emptyBooks}
 use Rattle.paper_board.specs.Paper.Tests.{implies, between, live, valid}
-use Rattle.paper_board.specs.Tests.Limits.{all, isZero, fits, isZeroRow, full, shape, holdsJob, holdsNothing, joinable, agrees, withinLimits}
+use Rattle.paper_board.specs.BoardTests.WithinLimits.{all, isZero, fits, isZeroRow, full, shape, holdsJob, holdsNothing, joinable, agrees, withinLimits}
 use Rattle.paper_rules.specs.Paper.Schedules.{Placing}
 use Rattle.paper_board.specs.Paper.View.{rowOf}
 use Rattle.paper_rules.specs.Update.Updates.{exclude, tighten, update, _andThen_}
 use Rattle.paper_closure.specs.Find.{guard, _orElse_, first, any, beyond, tooLate, joined, pushers, pushed, push, next, find}
 use Rattle.paper_closure.specs.Closing.{close, closure}
 use Rattle.paper_closure.specs.Check.{nothingLeft, passes}
-use Rattle.paper_entries.specs.Paper.Answers.{replyOf, RowReply, shows-row, no-row, rowReplyOf, PairReply, shows-pair, no-pair, pairReplyOf}
+use Rattle.paper_entries.specs.Paper.Replies.{replyOf, RowReply, shows-row, no-row, rowReplyOf, PairReply, shows-pair, no-pair, pairReplyOf}
 use Rattle.paper_entries.specs.Paper.Entry.{Entry}
-use Rattle.paper_entries.specs.Paper.Gate.{gate}
+use Rattle.paper_entries.specs.Paper.Checks.{gate}
 use Rattle.paper_entries.specs.Paper.Enter.{updateAll, raw, closureWith, enter}
 use Rattle.paper_entries.specs.Paper.Looking.{row, pair}
 use Rattle.paper_plans.specs.Paper.Lists.{range, keep, every, among}
 use Rattle.paper_plans.specs.Paper.Tries as Tries
 use Rattle.paper_plans.specs.Paper.Tries.{add, startAfter, from, search}
 use Rattle.paper_plans.specs.Paper.Planner.{placedWord, startList, plan}
-use Rattle.paper_plans.specs.Paper.Answers.{PlanReply, plan-found, plan-none, plan-spent, no-plan, planReplyOf}
+use Rattle.paper_plans.specs.Paper.PlanReply.{PlanReply, plan-found, plan-none, plan-spent, no-plan, planReplyOf}
 use Rattle.paper_requests.specs.Paper.Requests.{entryRefusal, planRefusal}
 use Rattle.paper_requests.specs.SampleEntries.{job, undecided, arrow, marked, cutTo}
 

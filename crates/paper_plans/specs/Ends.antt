@@ -18,18 +18,18 @@ use Rattle.paper_rules.specs.Paper.Closed.{Least}
 use Rattle.paper_rules.specs.Paper.Schedules.{Placing, Schedule}
 use Rattle.paper_rules.specs.Schedule.Boards.{least-keeps}
 use Rattle.paper_rules.specs.Schedule.Keeps.{keeps-schedule}
-use Rattle.paper_board.specs.Tests.LimitsDecided.{decides-between}
-use Rattle.paper_board.specs.Tests.Live.{valid-yes}
+use Rattle.paper_board.specs.BoardTests.LimitsDecided.{decides-between}
+use Rattle.paper_board.specs.BoardTests.Live.{valid-yes}
 use Rattle.paper_closure.specs.Check.{passes}
-use Rattle.paper_closure.specs.Checked.{passes-within}
+use Rattle.paper_closure.specs.PassesClosed.{passes-within}
 use Rattle.paper_entries.specs.Paper.Entry.{number}
-use Rattle.paper_entries.specs.Paper.Gate.{budgetLimit}
+use Rattle.paper_entries.specs.Paper.Checks.{budgetLimit}
 use Rattle.paper_plans.specs.declared.PlanAnswer.the-variants as Answers
 use Rattle.paper_plans.specs.Paper.Lists.{among}
 use Rattle.paper_plans.specs.Paper.Tries.{Outcome, found, none, planOf, tries}
 use Rattle.paper_plans.specs.Paper.Planner.{validJobs, unplanned, withPlan, answer, plan}
-use Rattle.paper_plans.specs.Paper.Answers.{PlanReply, plan-found, plan-none, plan-spent, planReplyOf}
-use Rattle.paper_plans.specs.Paper.Exact.{IsBudget, taken, ending}
+use Rattle.paper_plans.specs.Paper.PlanReply.{PlanReply, plan-found, plan-none, plan-spent, planReplyOf}
+use Rattle.paper_plans.specs.Paper.WithinBudget.{IsBudget, taken, ending}
 use Rattle.paper_plans.specs.Sound.{tries-sound}
 use Rattle.paper_plans.specs.Complete.{tries-complete}
 use Rattle.paper_plans.specs.PlanLaws.{valid-distinct, valid-among, plan-placing, plan-tries}

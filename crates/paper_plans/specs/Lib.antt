@@ -6,7 +6,7 @@ pub mod Unplaced
 -- Outcomes of tries.
 pub mod OutcomeLaws
 -- What is found is a schedule.
-pub mod Reached
+pub mod SearchReaches
 pub mod Sound
 -- Where there is a schedule, a plan is found.
 pub mod Complete

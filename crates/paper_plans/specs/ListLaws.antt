@@ -10,7 +10,7 @@ use lib.Dec.{ltb}
 use lib.ListN.{length}
 use borrow.Author.Tests.{eq-eqb, ne-eqb}
 use Rattle.ground_arithmetic.specs.Bools.{is-false, refuted}
-use Rattle.paper_board.specs.Tests.Decides.{Decides, holds, restated, retested, same-decision, passed, failed, _and_, lt}
+use Rattle.paper_board.specs.BoardTests.Decides.{Decides, holds, restated, retested, same-decision, passed, failed, _and_, lt}
 use Rattle.paper_plans.specs.Paper.Lists.{range, keep, every, among}
 
 -- ---- one job more

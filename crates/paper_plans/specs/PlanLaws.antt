@@ -18,23 +18,23 @@ use Rattle.ground_arithmetic.specs.Bools.{and-parts, and-both, same-tests}
 use Rattle.paper_board.specs.Paper.View.{View, view}
 use Rattle.paper_board.specs.Paper.Limits.{jobLimit}
 use Rattle.paper_board.specs.Paper.Tests.{valid, between}
-use Rattle.paper_board.specs.Tests.Live.{valid-yes}
-use Rattle.paper_board.specs.Tests.LimitsDecided.{past, decides-between}
+use Rattle.paper_board.specs.BoardTests.Live.{valid-yes}
+use Rattle.paper_board.specs.BoardTests.LimitsDecided.{past, decides-between}
 use Rattle.paper_board.specs.declared.Board.{Board}
 use Rattle.paper_closure.specs.Check.{passes}
 use Rattle.paper_entries.specs.Paper.Entry.{number}
-use Rattle.paper_entries.specs.Paper.Gate.{budgetLimit, budgetCheck, gate}
-use Rattle.paper_entries.specs.Lines.{no-line, unmet, passed}
+use Rattle.paper_entries.specs.Paper.Checks.{budgetLimit, budgetCheck, gate}
+use Rattle.paper_entries.specs.CheckLines.{no-line, unmet, passed}
 use Rattle.paper_plans.specs.declared.PlanAnswer.{PlanAnswer}
 use Rattle.paper_plans.specs.declared.PlanAnswer.the-variants as Answers
 use Rattle.paper_plans.specs.Paper.Lists.{range, among}
 use Rattle.paper_plans.specs.Paper.Tries as Tries
 use Rattle.paper_plans.specs.Paper.Tries.{Outcome, found, add, startAfter, startIn, planOf, tries}
 use Rattle.paper_plans.specs.Paper.Planner.{validJobs, placedWord, startList, unplanned, withPlan, answer, plan}
-use Rattle.paper_plans.specs.Paper.Answers.{placingOf}
-use Rattle.paper_plans.specs.Paper.Exact.{IsBudget}
+use Rattle.paper_plans.specs.Paper.PlanReply.{placingOf}
+use Rattle.paper_plans.specs.Paper.WithinBudget.{IsBudget}
 use Rattle.paper_plans.specs.ListLaws.{Distinct, among-first, among-later, keep-among, below-among, keep-distinct, range-distinct}
-use Rattle.paper_plans.specs.Reached.{start-first, start-rest}
+use Rattle.paper_plans.specs.SearchReaches.{start-first, start-rest}
 
 -- ---- the jobs tried
 

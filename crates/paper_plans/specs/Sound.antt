@@ -20,13 +20,13 @@ use Rattle.paper_rules.specs.Paper.Entries.{Drawn, drawn, shown}
 use Rattle.paper_board.specs.Paper.Facts.{Fact}
 use Rattle.paper_rules.specs.Paper.Schedules.{Respects, Keeps}
 use Rattle.paper_board.specs.Paper.Tests.{valid}
-use Rattle.paper_board.specs.Tests.Live.{valid-yes, valid-show}
+use Rattle.paper_board.specs.BoardTests.Live.{valid-yes, valid-show}
 use Rattle.paper_plans.specs.Paper.Lists.{among}
 use Rattle.paper_plans.specs.Paper.Tries.{found, startAfter, startIn, planOf, unplaced, tries}
 use Rattle.paper_plans.specs.ListLaws.{Distinct, none-among, among-rest, among-later}
 use Rattle.paper_plans.specs.Unplaced.{none-placed, ready-is, all-placed}
 use Rattle.paper_plans.specs.OutcomeLaws.{IfFound}
-use Rattle.paper_plans.specs.Reached.{Places, Reached, start-first, start-rest, last-and-before, search-reaches}
+use Rattle.paper_plans.specs.SearchReaches.{Places, Reached, start-first, start-rest, last-and-before, search-reaches}
 
 -- a job starts no earlier than E
 not-early : (v : View) (ps : List ℕ) (j : ℕ) → E v j ≤ℤ startAfter v ps j

@@ -15,14 +15,14 @@ use Rattle.paper_board.specs.Paper.Tests.{live}
 use Rattle.paper_board.specs.Paper.View.{View, view}
 use Rattle.paper_closure.specs.Check.{passes}
 use Rattle.paper_entries.specs.declared.Entered.{Entered}
-use Rattle.paper_entries.specs.Paper.Answers.{Reply, ok-number, ok, no-number, replyOf, pairReplyOf}
+use Rattle.paper_entries.specs.Paper.Replies.{Reply, ok-number, ok, no-number, replyOf, pairReplyOf}
 use Rattle.paper_entries.specs.Paper.Entry.{arc, mark, cut, Entry, addition, other, number}
 use Rattle.paper_entries.specs.Paper.Enter.{enter}
-use Rattle.paper_entries.specs.Paper.Exact.{Outcome, by-table, impossible, accepted}
-use Rattle.paper_entries.specs.Paper.Gate.{gate}
+use Rattle.paper_entries.specs.Paper.Outcome.{Outcome, by-table, impossible, accepted}
+use Rattle.paper_entries.specs.Paper.Checks.{gate}
 use Rattle.paper_entries.specs.Paper.Looking as Looking
 use Rattle.paper_entries.specs.Stepped.{enter-checked, enter-refused}
-use Rattle.paper_plans.specs.Paper.Answers.{planReplyOf}
+use Rattle.paper_plans.specs.Paper.PlanReply.{planReplyOf}
 use Rattle.paper_plans.specs.Paper.Lists.{among}
 use Rattle.paper_plans.specs.Paper.Planner as Planner
 use Rattle.paper_plans.specs.Paper.Tries as Tries

@@ -17,14 +17,14 @@ use Rattle.paper_board.specs.Paper.Parts.{ofParts, emptyBooks, withTally}
 use Rattle.paper_board.specs.Paper.Tests.{live, valid, between, implies}
 use Rattle.paper_rules.specs.Paper.Rules.{E, D}
 use Rattle.paper_board.specs.Paper.View.{Live, Valid, Invalid, Arc, view}
-use Rattle.paper_board.specs.Tests.Limits.{all, isZero, fits, isZeroRow, full, shape, holdsJob, holdsNothing, joinable, agrees, withinLimits}
+use Rattle.paper_board.specs.BoardTests.WithinLimits.{all, isZero, fits, isZeroRow, full, shape, holdsJob, holdsNothing, joinable, agrees, withinLimits}
 use Rattle.paper_rules.specs.Update.Updates.{exclude, tighten, update, _andThen_}
 use Rattle.paper_closure.specs.Find.{guard, _orElse_, first, any, beyond, tooLate, joined, pushers, pushed, push, next, find}
 use Rattle.paper_closure.specs.Closing.{close, closure}
 use Rattle.paper_closure.specs.Check.{nothingLeft, passes}
-use Rattle.paper_entries.specs.Paper.Answers.{ok-number, no-number, replyOf}
+use Rattle.paper_entries.specs.Paper.Replies.{ok-number, no-number, replyOf}
 use Rattle.paper_entries.specs.Paper.Entry.{Entry}
-use Rattle.paper_entries.specs.Paper.Gate.{checks, gate}
+use Rattle.paper_entries.specs.Paper.Checks.{checks, gate}
 use Rattle.paper_entries.specs.Paper.Enter.{updateAll, raw, closureWith, enter}
 use Rattle.paper_entries.specs.Paper.Sequence.{byValue, inPlace, Call, after, accepted, impossibles, finalBoard, acceptedBy}
 use Rattle.paper_plans.specs.Paper.Lists.{range, keep, every, among}

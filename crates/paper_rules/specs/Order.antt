@@ -1,5 +1,5 @@
 -- The order of boards by how much they show.
-pub mod Laws
+pub mod OrderLaws
 pub mod Empty
 pub mod Leastness
 pub mod Unique

@@ -15,16 +15,16 @@ use Rattle.paper_entries.specs.declared.Entered.{Entered}
 use Rattle.paper_entries.specs.declared.Entry.{Entry}
 use Rattle.paper_entries.specs.declared.RowAnswer.{RowAnswer}
 use Rattle.paper_entries.specs.declared.PairAnswer.{PairAnswer}
-use Rattle.paper_entries.specs.Paper.Answers.{rowReplyOf, pairReplyOf}
+use Rattle.paper_entries.specs.Paper.Replies.{rowReplyOf, pairReplyOf}
 use Rattle.paper_entries.specs.Paper.Enter.{enter}
-use Rattle.paper_entries.specs.Paper.Values.{entryOf}
+use Rattle.paper_entries.specs.Paper.EntryOf.{entryOf}
 use Rattle.paper_entries.specs.Paper.Looking.{row, pair}
 use Rattle.paper_plans.specs.declared.Planned.{Planned}
-use Rattle.paper_plans.specs.Paper.Answers.{planReplyOf}
+use Rattle.paper_plans.specs.Paper.PlanReply.{planReplyOf}
 use Rattle.paper_plans.specs.Paper.Planner.{plan}
 use Rattle.text_forms.specs.declared.Form.{Form}
 use Rattle.text_forms.specs.declared.Form.the-variants.{Entry as Enters, Row, Pair, Plan, Tally, Unknown}
-use Rattle.text_replies.specs.Paper.Replies.{refusalText, rowText, pairText, planText, tallyText}
+use Rattle.text_replies.specs.Paper.ReplyTexts.{refusalText, rowText, pairText, planText, tallyText}
 use Rattle.text_answers.specs.Paper.Text.{Answered, replyText, entered, carriedOut}
 
 -- the answer is written from i to j, and a is the board after it

@@ -11,11 +11,11 @@ use Rattle.text_decimals.specs.Decimal.{natural}
 use Rattle.text_numerals.specs.DecimalLaws.{natural-digits, natural-value}
 use Rattle.text_numerals.specs.Numerals.{digits, value}
 use Rattle.text_formats.specs.Format.{filled}
-use Rattle.paper_entries.specs.Paper.Answers.{ok-number, ok, no-number, shows-row, no-row, shows-pair, no-pair}
-use Rattle.paper_plans.specs.Paper.Answers.{plan-found, plan-none, plan-spent, no-plan}
-use Rattle.text_replies.specs.Paper.Replies.{refusalText}
+use Rattle.paper_entries.specs.Paper.Replies.{ok-number, ok, no-number, shows-row, no-row, shows-pair, no-pair}
+use Rattle.paper_plans.specs.Paper.PlanReply.{plan-found, plan-none, plan-spent, no-plan}
+use Rattle.text_replies.specs.Paper.ReplyTexts.{refusalText}
 use Rattle.text_answers.specs.Paper.Text.{LineReply, to-entry, to-row, to-pair, to-plan, to-tally, replyText, answer}
-use Rattle.text_answers.specs.Checked.{refusalIn, NotZero, Every, never-zero}
+use Rattle.text_answers.specs.CarriedPasses.{refusalIn, NotZero, Every, never-zero}
 
 -- a refusal's text tells its number
 refusal-told : (n m : ℕ) → refusalText n ≡ refusalText m → n ≡ m

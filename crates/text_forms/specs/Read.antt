@@ -10,8 +10,8 @@ use native.Mathlib.Omega.{arith}
 use mir.Syntax.{w32}
 use mir.ValLaws.{toZ-ofZ}
 use Rattle.text_decimals.specs.Magnitude.{held}
-use Rattle.text_numerals.specs.Natural.{short-fits}
-use Rattle.text_scans.specs.Exact.{scannable, AllShort, scanned-is-filled}
+use Rattle.text_numerals.specs.NaturalRead.{short-fits}
+use Rattle.text_scans.specs.ScannedIsFilled.{scannable, AllShort, scanned-is-filled}
 use Rattle.text_formats.specs.Format.{numberMark, scan, marks}
 use Rattle.text_scans.specs.Scan.{places, placed}
 use Rattle.text_forms.specs.declared.Form.{Form}
@@ -20,7 +20,7 @@ use Rattle.text_forms.specs.declared.Form.the-variants.{Unknown}
 use Rattle.text_forms.specs.Paper.Forms.{Shape, shapes, firstOf, formOf}
 use Rattle.text_forms.specs.Paper.Lines.{Line, ended}
 use Rattle.text_forms.specs.Shapes.{distinct, distinct-parts}
-use Rattle.text_forms.specs.Table.{firstIn, nothing, madeAt}
+use Rattle.text_forms.specs.FormTable.{firstIn, nothing, madeAt}
 
 -- numbers of at most 7 digits in as many places or more, and the 0 beyond them, are what the code holds
 held-placed : (n : ℕ) (zs : List ℤ) → AllShort zs → length zs ≤ n → (k : ℕ) → held (getD (placed n zs) k (pos 0)) ≡ getD zs k (pos 0)

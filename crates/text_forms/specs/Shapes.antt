@@ -8,11 +8,11 @@ use mathlib.Core.List.{List, [], _∷_}
 use mathlib.Core.Path.{_≡_, refl}
 use borrow.Author.Tests.{leb-true}
 use Rattle.text_scans.specs.Apart.{apart, apart-unread}
-use Rattle.text_scans.specs.Exact.{scannable, AllShort, filled-is-scanned}
+use Rattle.text_scans.specs.ScannedIsFilled.{scannable, AllShort, filled-is-scanned}
 use Rattle.text_formats.specs.Format.{numberMark, filled, marks}
 use Rattle.text_scans.specs.Scan.{places}
 use Rattle.text_forms.specs.Paper.Forms.{Shape, said, firstOf}
-use Rattle.text_forms.specs.Table.{nothing}
+use Rattle.text_forms.specs.FormTable.{nothing}
 
 -- no text of a later shape, nor the empty line, is written by this one too
 abbrev alone : Shape → List Shape → Bool

@@ -13,7 +13,7 @@ use Rattle.text_decimals.specs.Bytes.{isDigit}
 use Rattle.text_decimals.specs.Decimal.{natural}
 use Rattle.text_decimals.specs.Digits.{natural-small, natural-more, natural-length}
 use Rattle.text_numerals.specs.DigitsRead.{digits-ind, digit-range}
-use Rattle.text_numerals.specs.Natural.{natural-parts}
+use Rattle.text_numerals.specs.NaturalRead.{natural-parts}
 use Rattle.text_numerals.specs.Numerals.{digits, valueAfter, value, isNatural}
 use Rattle.text_numerals.specs.Value.{value-append}
 

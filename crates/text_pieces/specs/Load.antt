@@ -13,8 +13,8 @@ use Rattle.paper_board.specs.Paper.Limits.{emptyBoard}
 use Rattle.paper_board.specs.Paper.Parts.{emptyBooks}
 use Rattle.paper_board.specs.Paper.Refusals.{numberOf}
 use Rattle.paper_rules.specs.Order.Empty.{within-emptyBooks}
-use Rattle.paper_closure.specs.Checked.{empty-passes}
-use Rattle.text_replies.specs.Paper.Replies.{refusalText}
+use Rattle.paper_closure.specs.PassesClosed.{empty-passes}
+use Rattle.text_replies.specs.Paper.ReplyTexts.{refusalText}
 use Rattle.text_replies.specs.Room.{longest}
 use Rattle.text_pieces.specs.declared.Piece.{Piece}
 use Rattle.text_forms.specs.Paper.Lines.{linesOf}

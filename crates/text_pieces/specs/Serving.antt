@@ -10,7 +10,7 @@ use Rattle.paper_board.specs.declared.Refusal.the-variants as Refused
 use Rattle.paper_board.specs.Paper.Refusals.{numberOf}
 use Rattle.paper_closure.specs.Check.{passes}
 use Rattle.text_forms.specs.Paper.Forms.{formOf}
-use Rattle.text_replies.specs.Paper.Replies.{refusalText}
+use Rattle.text_replies.specs.Paper.ReplyTexts.{refusalText}
 use Rattle.text_pieces.specs.declared.Piece.{Piece}
 use Rattle.text_forms.specs.Paper.Lines.{Line, linesOf}
 use Rattle.text_answers.specs.Paper.Text.{Served, replyText, carriedOut, answered, serve, output}

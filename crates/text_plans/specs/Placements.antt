@@ -6,7 +6,7 @@ use native.Mathlib.Nat.{add-zero, zero-add, add-suc, suc-add}
 use native.Mathlib.Numerals.{add-one}
 use Rattle.paper_rules.specs.Paper.Schedules.{Placing}
 use Rattle.paper_plans.specs.Paper.Lists.{range}
-use Rattle.text_replies.specs.Paper.Replies.{placementText, placementsText}
+use Rattle.text_replies.specs.Paper.ReplyTexts.{placementText, placementsText}
 
 module _ (p : Placing) where
   -- the placement of one job

@@ -9,9 +9,9 @@ ghost use lib.ListN.{length};
 ghost use Rattle.ground_sets.specs.Bit.{bit};
 ghost use Rattle.text_decimals.specs.Written.{Written};
 ghost use Rattle.paper_board.specs.Paper.Limits.{jobLimit};
-ghost use Rattle.paper_plans.specs.Paper.Answers.{plan-found, placing, planReplyOf};
+ghost use Rattle.paper_plans.specs.Paper.PlanReply.{plan-found, placing, planReplyOf};
 ghost use Rattle.paper_plans.specs.Paper.Lists.{range};
-ghost use Rattle.text_replies.specs.Paper.Replies.{placementText, placementsText, planText};
+ghost use Rattle.text_replies.specs.Paper.ReplyTexts.{placementText, placementsText, planText};
 ghost use Rattle.text_replies.specs.Room.{longest, placementRoom, placementsRoom};
 
 fn put_placement(out: &mut [u8], at: usize, placed: u64, job: usize, start: i32) -> usize

@@ -8,8 +8,8 @@ ghost use Prim.Native.Nat.{_+_, _≤_};
 ghost use lib.ListN.{length};
 ghost use Rattle.text_decimals.specs.Written.{Written};
 ghost use Rattle.paper_board.specs.Paper.Refusals.{numberOf};
-ghost use Rattle.paper_entries.specs.Paper.Answers.{replyOf, rowReplyOf, pairReplyOf};
-ghost use Rattle.text_replies.specs.Paper.Replies.{refusalText, entryText, rowText, pairText, tallyText};
+ghost use Rattle.paper_entries.specs.Paper.Replies.{replyOf, rowReplyOf, pairReplyOf};
+ghost use Rattle.text_replies.specs.Paper.ReplyTexts.{refusalText, entryText, rowText, pairText, tallyText};
 ghost use Rattle.text_replies.specs.Room.{longest};
 
 // Room for any answer: the longest is a plan of all jobs.

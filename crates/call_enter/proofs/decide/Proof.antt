@@ -3,7 +3,7 @@ use mathlib.Core.Path.{refl, _∙_}
 use borrow.Author.Needs.{needs}
 use borrow.Author.Tests.{not-true, not-false}
 use Rattle.paper_board.specs.Paper.Limits.{Within}
-use Rattle.paper_closure.specs.Checked.{passes-within}
+use Rattle.paper_closure.specs.PassesClosed.{passes-within}
 use Rattle.call_statements.specs.Stated.{placed}
 use Rattle.call_enter.specs.Concluded.{shown-already, is-impossible, is-possible}
 use Rattle.call_enter.proofs.decide.Statement.{statement}

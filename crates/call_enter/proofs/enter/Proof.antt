@@ -2,8 +2,8 @@
 use mathlib.Core.Path.{_≡_, sym, _∙_}
 use mathlib.Core.Option.{none}
 use borrow.Author.Needs.{needs}
-use Rattle.paper_entries.specs.Paper.Values.{entryOf}
-use Rattle.paper_entries.specs.Paper.Gate.{checks, gate}
+use Rattle.paper_entries.specs.Paper.EntryOf.{entryOf}
+use Rattle.paper_entries.specs.Paper.Checks.{checks, gate}
 use Rattle.call_statements.specs.StatedBy.{stated-admissible}
 use Rattle.call_enter.specs.Called.{refused-enter, concluded-enter}
 use Rattle.call_enter.proofs.enter.Statement.{statement}

@@ -2,7 +2,7 @@
 use mathlib.Core.List.{[]}
 use borrow.Author.Needs.{needs}
 use mir.ValLaws.{toZ-ofZ}
-use Rattle.paper_entries.specs.Lines.{no-line}
+use Rattle.paper_entries.specs.CheckLines.{no-line}
 use Rattle.call_entry_checks.proofs.cut_gate.Statement.{statement}
 use Rattle.call_entry_checks.proofs.cut_gate.Tie as tie
 

@@ -6,7 +6,7 @@ use Rattle.call_in_place.proofs.Called.{holds}
 use Rattle.call_in_place.proofs.Carried.{numbers}
 use Rattle.call_in_place.proofs.Looked.{law}
 use Rattle.call_in_place.proofs.Plain.{struct}
-use Rattle.call_reply_numbers.specs.Replies.{planReply}
+use Rattle.call_reply_numbers.specs.ReplyNumbers.{planReply}
 use Rattle.call_reply_numbers.proofs.PlanReply as T
 use Rattle.call_reply_numbers.proofs.PlanReply.Laws as T′
 use Rattle.call_exports_by_value.proofs.plan.Met.{met}

@@ -6,7 +6,7 @@ use Rattle.call_in_place.proofs.Called.{holds}
 use Rattle.call_in_place.proofs.Carried.{numbers}
 use Rattle.call_in_place.proofs.Looked.{law}
 use Rattle.call_in_place.proofs.Plain.{struct}
-use Rattle.call_reply_numbers.specs.Replies.{rowReply}
+use Rattle.call_reply_numbers.specs.ReplyNumbers.{rowReply}
 use Rattle.call_reply_numbers.proofs.RowReply as T
 use Rattle.call_reply_numbers.proofs.RowReply.Laws as T′
 use Rattle.call_exports_by_value.proofs.row.Met.{met}

@@ -4,11 +4,11 @@ use mathlib.Core.Option.{none}
 use native.Mathlib.Omega.{arith}
 use borrow.Author.Needs.{needs}
 use mir.ValLaws.{toZ-ofZ}
-use Rattle.paper_closure.specs.Checked.{passes-within}
-use Rattle.paper_entries.specs.Paper.Gate.{pairChecks, gate}
+use Rattle.paper_closure.specs.PassesClosed.{passes-within}
+use Rattle.paper_entries.specs.Paper.Checks.{pairChecks, gate}
 use Rattle.paper_entries.specs.Paper.Looking.{pair}
-use Rattle.call_checks.specs.Values.{refusalOf}
-use Rattle.paper_entries.specs.Numbers.{PairNumbers, pair-numbers}
+use Rattle.call_checks.specs.RefusalOf.{refusalOf}
+use Rattle.paper_entries.specs.CallNumbers.{PairNumbers, pair-numbers}
 use Rattle.call_pairs.proofs.pair.Statement.{statement}
 use Rattle.call_pairs.proofs.pair.Tie as tie
 

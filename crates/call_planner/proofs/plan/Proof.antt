@@ -4,9 +4,9 @@ use mathlib.Core.List.{[], _∷_}
 use mathlib.Core.Option.{none}
 use borrow.Author.Needs.{needs}
 use mir.ValLaws.{toZ-ofZ}
-use Rattle.paper_closure.specs.Checked.{passes-within}
-use Rattle.paper_entries.specs.Paper.Gate.{budgetCheck, gate}
-use Rattle.call_checks.specs.Values.{refusalOf}
+use Rattle.paper_closure.specs.PassesClosed.{passes-within}
+use Rattle.paper_entries.specs.Paper.Checks.{budgetCheck, gate}
+use Rattle.call_checks.specs.RefusalOf.{refusalOf}
 use Rattle.paper_plans.specs.Paper.Planner.{plan}
 use Rattle.paper_plans.specs.PlanLaws.{budget-within}
 use Rattle.call_planner.proofs.plan.Statement.{statement}

@@ -14,15 +14,15 @@ use Rattle.ground_arithmetic.specs.Time.{greater}
 use Rattle.paper_board.specs.Paper.Limits.{IsTime}
 use Rattle.paper_rules.specs.Paper.Rules.{E, L}
 use Rattle.paper_board.specs.Paper.View.{view}
-use Rattle.paper_board.specs.Tests.Live.{valid-yes}
-use Rattle.paper_board.specs.Tests.Ranges.{ranges, greater-time, time-moderate, length-moderate}
-use Rattle.engine_sums.specs.Exact.{lengths-within}
-use Rattle.engine_sums.specs.Laws.{time-fits, length-fits}
+use Rattle.paper_board.specs.BoardTests.Live.{valid-yes}
+use Rattle.paper_board.specs.BoardTests.Ranges.{ranges, greater-time, time-moderate, length-moderate}
+use Rattle.engine_sums.specs.RaiseExact.{lengths-within}
+use Rattle.engine_sums.specs.SumLaws.{time-fits, length-fits}
 use Rattle.engine_marks.specs.Marked.{bit-valid}
 use Rattle.paper_plans.specs.Paper.Tries.{startAfter, ready, inTime}
-use Rattle.call_placements.specs.Rest.{stack}
+use Rattle.call_placements.specs.Stack.{stack}
 use Rattle.call_placements.specs.Waiting.{order}
-use Rattle.call_placements.specs.Loop.{at, State, try-test}
+use Rattle.call_placements.specs.PlannerState.{at, State, try-test}
 use Rattle.call_planner.specs.Moves.{at-start, taken-back, tried-in-vain, job-placed}
 use Rattle.call_planner.specs.Results.{deep, room, exhausted, overspent, all-are-placed}
 use Rattle.call_planner.proofs.search.Statement.{statement}

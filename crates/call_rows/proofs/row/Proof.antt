@@ -5,11 +5,11 @@ use mathlib.Core.Option.{none}
 use native.Mathlib.Omega.{arith}
 use borrow.Author.Needs.{needs}
 use mir.ValLaws.{toZ-ofZ}
-use Rattle.paper_closure.specs.Checked.{passes-within}
-use Rattle.paper_entries.specs.Paper.Gate.{jobCheck, gate}
+use Rattle.paper_closure.specs.PassesClosed.{passes-within}
+use Rattle.paper_entries.specs.Paper.Checks.{jobCheck, gate}
 use Rattle.paper_entries.specs.Paper.Looking.{row}
-use Rattle.call_checks.specs.Values.{refusalOf}
-use Rattle.paper_entries.specs.Numbers.{IsJob, job-numbers}
+use Rattle.call_checks.specs.RefusalOf.{refusalOf}
+use Rattle.paper_entries.specs.CallNumbers.{IsJob, job-numbers}
 use Rattle.call_rows.proofs.row.Statement.{statement}
 use Rattle.call_rows.proofs.row.Tie as tie
 

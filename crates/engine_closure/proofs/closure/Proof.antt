@@ -5,7 +5,7 @@ use mathlib.Core.Path.{_≡_, ap}
 use mathlib.Core.Bool.{true}
 use borrow.Author.Tests.{not-true, not-false}
 use Rattle.paper_rules.specs.Update.Filled.{arrayed, ArraysWithin}
-use Rattle.engine_findings.specs.Values.{inferredOf}
+use Rattle.engine_findings.specs.InferredOf.{inferredOf}
 use Rattle.engine_advance.specs.Advances.{Advances}
 use Rattle.paper_closure.specs.Measure.{measure}
 use Rattle.engine_search.specs.Reads.{arrays-hold}

@@ -5,8 +5,8 @@ use mathlib.Core.Path.{_∙_}
 use mir.Syntax.{w32}
 use mir.ValLaws.{toZ-ofZ}
 use Rattle.paper_board.specs.Paper.Values.{sideOf}
-use Rattle.paper_board.specs.Tests.Sets.{Subset, subset-none, subset-with}
-use Rattle.engine_sums.specs.Laws.{end-moderate}
+use Rattle.paper_board.specs.BoardTests.Sets.{Subset, subset-none, subset-with}
+use Rattle.engine_sums.specs.SumLaws.{end-moderate}
 use Rattle.engine_detection.proofs.clashing.Statement.{statement}
 use Rattle.engine_detection.proofs.clashing.Tie as tie
 

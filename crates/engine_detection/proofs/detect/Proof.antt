@@ -7,8 +7,8 @@ use mir.Syntax.{w32}
 use mir.Val.{SFits, toZ, ofZ}
 use mir.ValLaws.{toZ-ofZ}
 use Rattle.paper_board.specs.Paper.View.{early}
-use Rattle.paper_board.specs.Tests.Ranges.{time-moderate}
-use Rattle.engine_sums.specs.Laws.{time-fits, length-fits, length-moderate, end-moderate}
+use Rattle.paper_board.specs.BoardTests.Ranges.{time-moderate}
+use Rattle.engine_sums.specs.SumLaws.{time-fits, length-fits, length-moderate, end-moderate}
 use Rattle.engine_arcs.specs.Arcs.{sound-none}
 use Rattle.engine_detection.specs.Detection.{Pair, detected}
 use Rattle.engine_detection.proofs.detect.Statement.{statement}

@@ -10,7 +10,7 @@ use mir.ValLaws.{toZ-ofZ}
 use Rattle.ground_arithmetic.specs.Bools.{by-test}
 use Rattle.ground_arithmetic.specs.Time.{Moderate, greater}
 use Rattle.paper_board.specs.Paper.Values.{sideOf}
-use Rattle.engine_sums.specs.Laws.{end-moderate}
+use Rattle.engine_sums.specs.SumLaws.{end-moderate}
 use Rattle.engine_detection.proofs.last_end.Statement.{statement}
 use Rattle.engine_detection.proofs.last_end.Tie as tie
 

@@ -8,7 +8,7 @@ use Rattle.ground_arithmetic.specs.Bools.{refuted}
 use Rattle.ground_arithmetic.specs.Linear.{whole}
 use Rattle.paper_board.specs.Paper.Values.{sideOf, turned}
 use Rattle.engine_sums.specs.Sums.{endAt, load, boundOf}
-use Rattle.engine_sums.specs.Laws.{end-moderate, load-moderate, load-back}
+use Rattle.engine_sums.specs.SumLaws.{end-moderate, load-moderate, load-back}
 use Rattle.engine_energy.proofs.ends_by.Statement.{statement}
 use Rattle.engine_energy.proofs.ends_by.Tie as tie
 

@@ -22,7 +22,7 @@ use Rattle.paper_board.specs.Paper.View.{Side}
 use Rattle.paper_board.specs.Paper.Limits.{jobLimit, lastMinute}
 use Rattle.paper_board.specs.Paper.Values.{sideOf}
 use Rattle.engine_sums.specs.Sums.{boundAt, lengthAt, Lengths, load, Strikes, none-struck, struck, Beats}
-use Rattle.engine_sums.specs.Laws.{bound-moderate, length-fits, length-moderate, load-moderate, strikes-inside}
+use Rattle.engine_sums.specs.SumLaws.{bound-moderate, length-fits, length-moderate, load-moderate, strikes-inside}
 use Rattle.engine_sums.specs.Members.{total-without}
 use Rattle.engine_energy.specs.Passed.{Passed, none-passed, all-passed, pass, pass-struck, kept-passed}
 use Rattle.engine_energy.proofs.strike.Statement.{statement}

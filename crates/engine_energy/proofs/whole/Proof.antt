@@ -18,7 +18,7 @@ use Rattle.paper_board.specs.Paper.View.{Side}
 use Rattle.paper_board.specs.Paper.Limits.{jobLimit}
 use Rattle.paper_board.specs.Paper.Values.{sideOf}
 use Rattle.engine_sums.specs.Sums.{boundAt, lengthAt, Times, Lengths, load, Comes}
-use Rattle.engine_sums.specs.Laws.{length-fits, length-moderate, load-range, load-none}
+use Rattle.engine_sums.specs.SumLaws.{length-fits, length-moderate, load-range, load-none}
 use Rattle.engine_energy.specs.Passed.{Passed, none-passed, all-passed, pass}
 use Rattle.engine_energy.proofs.whole.Statement.{statement}
 use Rattle.engine_energy.proofs.whole.Tie as tie

@@ -7,9 +7,9 @@ use mir.Syntax.{w32}
 use mir.Val.{SFits}
 use mir.ValLaws.{toZ-ofZ}
 use borrow.Author.Tests.{not-true}
-use Rattle.paper_board.specs.Tests.Ranges.{time-moderate}
-use Rattle.paper_board.specs.Tests.Sets.{Subset}
-use Rattle.engine_sums.specs.Laws.{time-fits, length-fits, length-moderate}
+use Rattle.paper_board.specs.BoardTests.Ranges.{time-moderate}
+use Rattle.paper_board.specs.BoardTests.Sets.{Subset}
+use Rattle.engine_sums.specs.SumLaws.{time-fits, length-fits, length-moderate}
 use Rattle.engine_exclusion.specs.Gone.{Unfit, unfit-none, unfit-more}
 use Rattle.engine_exclusion.proofs.unfit.Statement.{statement}
 use Rattle.engine_exclusion.proofs.unfit.Tie as tie

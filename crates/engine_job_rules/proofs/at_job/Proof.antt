@@ -4,10 +4,10 @@ use mir.ValLaws.{toZ-ofZ}
 use borrow.Author.Tests.{not-true, not-false}
 use Rattle.paper_board.specs.declared.Board.{Board}
 use Rattle.paper_board.specs.Paper.View.{Live, early, view, rowOf}
-use Rattle.paper_board.specs.Tests.Live.{roomy}
-use Rattle.paper_board.specs.Tests.Ranges.{time-moderate}
-use Rattle.engine_sums.specs.Laws.{time-fits, length-fits, length-moderate}
-use Rattle.engine_findings.specs.Values.{inferredOf}
+use Rattle.paper_board.specs.BoardTests.Live.{roomy}
+use Rattle.paper_board.specs.BoardTests.Ranges.{time-moderate}
+use Rattle.engine_sums.specs.SumLaws.{time-fits, length-fits, length-moderate}
+use Rattle.engine_findings.specs.InferredOf.{inferredOf}
 use Rattle.engine_findings.specs.Searched.{Searched}
 use Rattle.engine_job_rules.specs.Settled.{Settled}
 use Rattle.engine_job_rules.specs.JobSearched.{JobRead, Represented, read-early, read-late, room-is, says-room, says-late}

@@ -5,11 +5,11 @@ use mathlib.Core.Bool.{Bool}
 use native.Mathlib.Omega.{arith}
 use borrow.Author.Needs.{needs}
 use Rattle.paper_board.specs.Paper.Limits.{Shape}
-use Rattle.paper_board.specs.Tests.Limits.{withinLimits}
-use Rattle.paper_board.specs.Tests.Decides.{Decides, failed, second-asked, first-failed, same-decision}
-use Rattle.paper_board.specs.Tests.LimitsDecided.{decides-limits}
+use Rattle.paper_board.specs.BoardTests.WithinLimits.{withinLimits}
+use Rattle.paper_board.specs.BoardTests.Decides.{Decides, failed, second-asked, first-failed, same-decision}
+use Rattle.paper_board.specs.BoardTests.LimitsDecided.{decides-limits}
 use Rattle.engine_agreement.specs.Agreement.{Agree}
-use Rattle.engine_limits.specs.Limits.{Held, limits-tested}
+use Rattle.engine_limits.specs.LimitsTested.{Held, limits-tested}
 use Rattle.engine_limits.proofs.within_limits.Statement.{statement}
 use Rattle.engine_limits.proofs.within_limits.Tie as tie
 

@@ -12,7 +12,7 @@ use Rattle.ground_arithmetic.specs.Time.{greater}
 use Rattle.paper_board.specs.Paper.Limits.{jobLimit}
 use Rattle.paper_board.specs.Paper.Values.{sideOf}
 use Rattle.engine_sums.specs.Sums.{boundAt}
-use Rattle.engine_sums.specs.Laws.{length-fits, length-moderate, bound-moderate}
+use Rattle.engine_sums.specs.SumLaws.{length-fits, length-moderate, bound-moderate}
 use Rattle.engine_makespan.specs.Makespan.{in-range-moderate, greater-moderate, append-in-range, append-sequenced}
 use Rattle.engine_makespan.proofs.append.Statement.{statement}
 use Rattle.engine_makespan.proofs.append.Tie as tie

@@ -1,7 +1,7 @@
 -- `engine_partners::ends_late` meets its contract: it reads the two numbers of k. Assumes nothing.
 use borrow.Author.Needs.{needs}
 use mir.ValLaws.{toZ-ofZ}
-use Rattle.engine_sums.specs.Laws.{time-fits, length-fits, length-moderate}
+use Rattle.engine_sums.specs.SumLaws.{time-fits, length-fits, length-moderate}
 use Rattle.engine_partners.proofs.ends_late.Statement.{statement}
 use Rattle.engine_partners.proofs.ends_late.Tie as tie
 

@@ -9,8 +9,8 @@ use mir.ValLaws.{toZ-ofZ}
 use Rattle.ground_sets.specs.Bit.{bit}
 use Rattle.ground_sets.specs.BitLaws.{bit-zero}
 use Rattle.ground_arithmetic.specs.Bools.{refuted}
-use Rattle.paper_board.specs.Tests.Ranges.{time-moderate}
-use Rattle.engine_sums.specs.Laws.{time-fits, length-fits, length-moderate}
+use Rattle.paper_board.specs.BoardTests.Ranges.{time-moderate}
+use Rattle.engine_sums.specs.SumLaws.{time-fits, length-fits, length-moderate}
 use Rattle.engine_partners.specs.Partners.{InTime, in-time-lesser}
 use borrow.Author.Needs.{needs}
 use Rattle.engine_partners.proofs.latest_start.Statement.{statement}

@@ -7,7 +7,7 @@ use Rattle.ground_walks.specs.Walk.{visited, none-left}
 use Rattle.paper_board.specs.declared.Board.{Board}
 use Rattle.paper_board.specs.Paper.Limits.{jobLimit}
 use Rattle.paper_board.specs.Paper.View.{view}
-use Rattle.engine_findings.specs.Values.{inferredOf}
+use Rattle.engine_findings.specs.InferredOf.{inferredOf}
 use Rattle.engine_findings.specs.Searched.{Searched}
 use Rattle.engine_job_rules.specs.JobSearched.{JobSettled, read-early, read-late}
 use Rattle.engine_dominance.specs.Dominance.{represented}

@@ -5,8 +5,8 @@ use mir.Syntax.{w32}
 use mir.ValLaws.{toZ-ofZ}
 use Rattle.ground_arithmetic.specs.Time.{Moderate}
 use Rattle.paper_board.specs.Paper.View.{early}
-use Rattle.paper_board.specs.Tests.Ranges.{time-moderate}
-use Rattle.engine_sums.specs.Laws.{time-fits, length-fits, length-moderate, end-moderate}
+use Rattle.paper_board.specs.BoardTests.Ranges.{time-moderate}
+use Rattle.engine_sums.specs.SumLaws.{time-fits, length-fits, length-moderate, end-moderate}
 use Rattle.engine_search.proofs.earliest_end.Statement.{statement}
 use Rattle.engine_search.proofs.earliest_end.Tie as tie
 

@@ -4,7 +4,7 @@ use mir.Syntax.{w32}
 use mir.Val.{toZ, ofZ}
 use mir.ValLaws.{toZ-ofZ}
 use Rattle.paper_board.specs.Paper.Values.{sideOf, turned}
-use Rattle.engine_sums.specs.Laws.{end-moderate}
+use Rattle.engine_sums.specs.SumLaws.{end-moderate}
 use borrow.Author.Needs.{needs}
 use Rattle.engine_sums.proofs.single_bound.Statement.{statement}
 use Rattle.engine_sums.proofs.single_bound.Tie as tie

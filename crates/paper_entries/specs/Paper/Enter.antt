@@ -16,7 +16,7 @@ use Rattle.paper_entries.specs.declared.Answer.{Answer}
 use Rattle.paper_entries.specs.declared.Answer.the-variants as Answers
 use Rattle.paper_entries.specs.declared.Entered.{Entered}
 use Rattle.paper_entries.specs.Paper.Entry.{Entry, addition, other, addedRow, stated}
-use Rattle.paper_entries.specs.Paper.Gate.{checks, gate}
+use Rattle.paper_entries.specs.Paper.Checks.{checks, gate}
 
 -- the facts shown, one after the other, or none where a mark would have to change
 unfoldable pub updateAll : Board → List Fact → Option Board

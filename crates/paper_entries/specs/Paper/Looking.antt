@@ -15,7 +15,7 @@ use Rattle.paper_entries.specs.declared.RowAnswer.the-variants as Rows
 use Rattle.paper_entries.specs.declared.PairAnswer.{PairAnswer}
 use Rattle.paper_entries.specs.declared.PairAnswer.the-variants as Pairs
 use Rattle.paper_entries.specs.Paper.Entry.{number}
-use Rattle.paper_entries.specs.Paper.Gate.{jobCheck, pairChecks, gate}
+use Rattle.paper_entries.specs.Paper.Checks.{jobCheck, pairChecks, gate}
 
 -- "Row of a job: mark, E, D, the set before it and the set after it."
 abbrev pub rowShown : Board → ℕ → RowAnswer

@@ -14,7 +14,7 @@ use Rattle.paper_board.specs.Paper.View.{View, view}
 use Rattle.paper_board.specs.Paper.Tests.{valid}
 use Rattle.paper_closure.specs.Check.{passes}
 use Rattle.paper_entries.specs.Paper.Entry.{number}
-use Rattle.paper_entries.specs.Paper.Gate.{budgetCheck, gate}
+use Rattle.paper_entries.specs.Paper.Checks.{budgetCheck, gate}
 use Rattle.paper_plans.specs.declared.PlanAnswer.{PlanAnswer}
 use Rattle.paper_plans.specs.declared.PlanAnswer.the-variants as Answers
 use Rattle.paper_plans.specs.declared.Planned.{Planned}

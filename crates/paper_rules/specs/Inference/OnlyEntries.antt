@@ -14,11 +14,11 @@ use Rattle.paper_board.specs.Paper.Limits.{RowLimits, Limited}
 use Rattle.paper_rules.specs.Inference.Infers.{Infers, r1, r2, r3, r45, r6, Obeys}
 use Rattle.paper_rules.specs.Paper.Entries.{Entries, Shown, Shows, _⊑_}
 use Rattle.paper_rules.specs.Paper.Closed.{Closed, Least}
-use Rattle.paper_rules.specs.Order.Laws.{valid-up}
+use Rattle.paper_rules.specs.Order.OrderLaws.{valid-up}
 use Rattle.paper_rules.specs.Order.Tabulated.{closed-board, least-below}
 use Rattle.paper_rules.specs.Update.Updates.{marked}
-use Rattle.paper_rules.specs.Update.Rows.{marked-fits}
-use Rattle.paper_rules.specs.Update.Limits.{live-row}
+use Rattle.paper_rules.specs.Update.RaisedRows.{marked-fits}
+use Rattle.paper_rules.specs.Update.StoreWithin.{live-row}
 use Rattle.paper_rules.specs.Inference.Agrees.{rules-obey}
 
 -- v with the mark of job j taken back to undecided

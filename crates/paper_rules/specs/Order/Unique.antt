@@ -17,7 +17,7 @@ use Rattle.paper_board.specs.Paper.Parts.{ofParts}
 use Rattle.paper_board.specs.Paper.Equality.{Alike, Same, EqualBoards}
 use Rattle.paper_rules.specs.Paper.Entries.{Entries, Shown, _⊑_}
 use Rattle.paper_rules.specs.Paper.Closed.{Least}
-use Rattle.paper_rules.specs.Order.Laws.{live-down, arc-up}
+use Rattle.paper_rules.specs.Order.OrderLaws.{live-down, arc-up}
 
 -- two live rows that show each other are equal
 live-rows : (r s : Row) → r .mark ≤ 2 → s .mark ≤ 2 → r .mark ≢ 2 → s .mark ≢ 2 → Shown r s → Shown s r → r ≡ s

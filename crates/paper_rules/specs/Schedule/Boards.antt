@@ -17,7 +17,7 @@ use Rattle.paper_rules.specs.Paper.Entries.{Entries, Admissible}
 use Rattle.paper_rules.specs.Paper.Closed.{Closed, Least, Contradiction}
 use Rattle.paper_rules.specs.Paper.Schedules.{Placing, Placed, Schedule, Keeps}
 use Rattle.paper_rules.specs.Order.Tabulated.{boardOf, closed-board, least-below}
-use Rattle.paper_rules.specs.Update.Limits.{live-row, invalid-row, blank-row}
+use Rattle.paper_rules.specs.Update.StoreWithin.{live-row, invalid-row, blank-row}
 use Rattle.paper_rules.specs.Schedule.Scheduled.{placedRow, absentRow, scheduled, placed-live, arc-read}
 use Rattle.paper_rules.specs.Schedule.Obeys.{scheduled-obeys}
 use Rattle.paper_rules.specs.Schedule.Shows.{scheduled-shows, kept}

@@ -8,7 +8,7 @@ use Rattle.ground_arithmetic.specs.Bools.{is-false, refuted}
 use Rattle.ground_arithmetic.specs.Linear.{whole}
 use Rattle.paper_board.specs.Paper.View.{View, early, late}
 use Rattle.paper_board.specs.Paper.Facts.{Fact, is-arc, is-bound, is-valid, is-invalid, Holds, Known}
-use Rattle.paper_rules.specs.Order.Laws.{shown-invalid}
+use Rattle.paper_rules.specs.Order.OrderLaws.{shown-invalid}
 use Rattle.paper_rules.specs.Inference.Forced.{valid-live}
 use Rattle.paper_rules.specs.Paper.Entries.{Entries, Admissible, Shown, Shows, Drawn, drawn, shown, _⊑_}
 use Rattle.paper_rules.specs.Paper.Schedules.{Placing, Respects, Schedule, Keeps}

@@ -6,7 +6,7 @@ use Rattle.paper_board.specs.declared.Board.{Board}
 use Rattle.paper_board.specs.Paper.View.{View, view}
 use Rattle.paper_rules.specs.Inference.Infers.{Obeys}
 use Rattle.paper_rules.specs.Paper.Entries.{_⊑_}
-use Rattle.paper_rules.specs.Order.Laws.{⊑-trans}
+use Rattle.paper_rules.specs.Order.OrderLaws.{⊑-trans}
 use Rattle.paper_rules.specs.Order.Unique.{alike-boards, equal-boards}
 use Rattle.paper_rules.specs.Update.Updates.{_andThen_}
 use Rattle.paper_rules.specs.Update.Extension.{Extension, Extends}

@@ -18,7 +18,7 @@ use Rattle.ground_sets.specs.BitLaws.{bit-zero, bit-with, bit-without, bit-ext}
 use Rattle.paper_board.specs.declared.Board.{Board}
 use Rattle.paper_board.specs.Paper.View.{Row, Arc, rowOf, arcOf, arcIntoOf, view}
 use Rattle.paper_board.specs.Paper.Limits.{jobLimit, Shape, Within}
-use Rattle.paper_board.specs.Tests.Ranges.{after-fits, before-fits}
+use Rattle.paper_board.specs.BoardTests.Ranges.{after-fits, before-fits}
 use Rattle.paper_rules.specs.Update.Updates.{store, link, isolate, invalidate}
 
 -- the arrays have a place for every job

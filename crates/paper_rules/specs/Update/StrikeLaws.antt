@@ -18,12 +18,12 @@ use Rattle.ground_sets.specs.BitLaws.{setOf-with, setOf-same, bits-bound, diffe
 use Rattle.paper_board.specs.declared.Board.{Board}
 use Rattle.paper_board.specs.Paper.View.{rowOf}
 use Rattle.paper_board.specs.Paper.Limits.{jobLimit, Within}
-use Rattle.paper_board.specs.Tests.Ranges.{after-fits, before-fits}
+use Rattle.paper_board.specs.BoardTests.Ranges.{after-fits, before-fits}
 use Rattle.paper_rules.specs.Update.Updates.{isolate, invalidate}
 use Rattle.paper_rules.specs.Update.Stores.{place}
-use Rattle.paper_rules.specs.Update.Limits.{invalidate-within}
+use Rattle.paper_rules.specs.Update.StoreWithin.{invalidate-within}
 use Rattle.paper_rules.specs.Update.Filled.{filled}
-use Rattle.paper_rules.specs.Update.Places.{partly, length-partly, getD-changed, getD-kept, partly-keeps, partly-is, partly-put}
+use Rattle.paper_rules.specs.Update.PartlyChanged.{partly, length-partly, getD-changed, getD-kept, partly-keeps, partly-is, partly-put}
 use Rattle.paper_rules.specs.Update.Strike.{cleared, thinned, strikeBelow, strike}
 
 -- ---- one array where no job is struck out, and where one more is

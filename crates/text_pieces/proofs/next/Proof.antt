@@ -9,7 +9,7 @@ use Rattle.text_decimals.specs.Rest.{rest-length}
 use Rattle.text_replies.specs.Room.{longest}
 use Rattle.text_numerals.specs.Prefix.{prefix-within}
 use Rattle.text_forms.specs.LineLaws.{inLine, lineLength}
-use Rattle.text_pieces.specs.Loop.{Going, going-start, going-line, full, done, last}
+use Rattle.text_pieces.specs.Going.{Going, going-start, going-line, full, done, last}
 use Rattle.text_forms.specs.Paper.Lines.{linesOf}
 use Rattle.text_answers.specs.Paper.Text.{serve}
 use Rattle.text_pieces.proofs.next.Statement.{statement}

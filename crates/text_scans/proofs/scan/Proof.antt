@@ -9,11 +9,11 @@ use mir.Syntax.{w32}
 use mir.ValLaws.{toZ-ofZ}
 use borrow.Author.Needs.{needs}
 use borrow.Author.Tests.{not-true, not-false}
-use Rattle.text_numerals.specs.Exact.{Reads, read-number}
-use Rattle.text_numerals.specs.Natural.{short-fits}
+use Rattle.text_numerals.specs.NumberRead.{Reads, read-number}
+use Rattle.text_numerals.specs.NaturalRead.{short-fits}
 use Rattle.text_numerals.specs.Numerals.{numberAt}
 use Rattle.text_numerals.specs.declared.Numeral.the-variants.{Number}
-use Rattle.text_scans.specs.Loop.{State, at-start, place-left, number-taken, number-missing, byte-taken, byte-missing, at-end, as-parts}
+use Rattle.text_scans.specs.ScanState.{State, at-start, place-left, number-taken, number-missing, byte-taken, byte-missing, at-end, as-parts}
 use Rattle.text_scans.specs.Scan.{startsWith, starts-some}
 use Rattle.text_scans.proofs.scan.Statement.{statement}
 use Rattle.text_scans.proofs.scan.Tie as tie

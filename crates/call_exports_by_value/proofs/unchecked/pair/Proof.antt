@@ -2,7 +2,7 @@
 use mathlib.Core.Path.{_∙_, ap}
 use borrow.Author.Needs.{needs}
 use mir.ValLaws.{toZ-ofZ}
-use Rattle.call_reply_numbers.specs.Replies.{pairReply}
+use Rattle.call_reply_numbers.specs.ReplyNumbers.{pairReply}
 use Rattle.call_exports_by_value.proofs.unchecked.pair.Statement.{statement}
 use Rattle.call_exports_by_value.proofs.unchecked.pair.Tie as tie
 

@@ -2,7 +2,7 @@
 use mathlib.Core.Path.{_∙_, ap}
 use borrow.Author.Needs.{needs}
 use mir.ValLaws.{toZ-ofZ}
-use Rattle.call_reply_numbers.specs.Replies.{planReply}
+use Rattle.call_reply_numbers.specs.ReplyNumbers.{planReply}
 use Rattle.call_exports_by_value.proofs.unchecked.plan.Statement.{statement}
 use Rattle.call_exports_by_value.proofs.unchecked.plan.Tie as tie
 

@@ -2,7 +2,7 @@
 use mathlib.Core.Path.{_∙_, ap}
 use borrow.Author.Needs.{needs}
 use mir.ValLaws.{toZ-ofZ}
-use Rattle.call_reply_numbers.specs.Replies.{rowReply}
+use Rattle.call_reply_numbers.specs.ReplyNumbers.{rowReply}
 use Rattle.call_exports_by_value.proofs.unchecked.row.Statement.{statement}
 use Rattle.call_exports_by_value.proofs.unchecked.row.Tie as tie
 

@@ -5,8 +5,8 @@ use lib.Dec.{leb}
 use lib.IntN.{ℤ, pos}
 use lib.Signed.{_≤ℤ_}
 use Rattle.paper_board.specs.Paper.View.{View}
-use Rattle.paper_entries.specs.Paper.Gate.{budgetLimit}
-use Rattle.paper_plans.specs.Paper.Answers.{PlanReply, plan-found, plan-none, plan-spent}
+use Rattle.paper_entries.specs.Paper.Checks.{budgetLimit}
+use Rattle.paper_plans.specs.Paper.PlanReply.{PlanReply, plan-found, plan-none, plan-spent}
 use Rattle.paper_plans.specs.Paper.Planner.{validJobs}
 use Rattle.paper_plans.specs.Paper.Tries.{Outcome, found, none, planOf, tries}
 

@@ -9,14 +9,14 @@ use mathlib.Core.List.{List, [], _∷_}
 use mathlib.Core.Option.{Option, none, some}
 use mathlib.Core.Path.{_≡_, refl, sym, ap, _∙_}
 use native.Mathlib.Omega.{arith}
-use Rattle.text_scans.specs.Exact.{scannable, AllShort, scanned-is-filled}
+use Rattle.text_scans.specs.ScannedIsFilled.{scannable, AllShort, scanned-is-filled}
 use Rattle.text_formats.specs.Format.{numberMark, filled, scan, marks}
 use Rattle.paper_entries.specs.declared.Entry.the-variants.{Addition, Arc, Mark, Cut}
 use Rattle.text_forms.specs.declared.Form.{Form}
 use Rattle.text_forms.specs.declared.Form.the-variants.{Entry, Row, Pair, Plan, Tally, Unknown}
 use Rattle.text_forms.specs.Paper.Forms.{Shape, shapes, said, firstOf, formOf}
 use Rattle.text_forms.specs.Shapes.{distinct, distinct-parts, filled-is-said}
-use Rattle.text_forms.specs.Table.{shapeAt}
+use Rattle.text_forms.specs.FormTable.{shapeAt}
 
 -- a format of the table, counted from 0, and numbers to fill it in with
 pub record Filling : Type 0 where

@@ -13,7 +13,7 @@ use borrow.Author.Tests.{eqb-true, eqb-false, eq-eqb, not-true}
 use Rattle.text_decimals.specs.Bytes.{isDigit}
 use Rattle.text_decimals.specs.Decimal.{number}
 use Rattle.text_numerals.specs.DigitsRead.{startsWithDigit}
-use Rattle.text_numerals.specs.Exact.{number-read, read-number}
+use Rattle.text_numerals.specs.NumberRead.{number-read, read-number}
 use Rattle.text_numerals.specs.Numerals.{numberAt, Short}
 use Rattle.text_numerals.specs.declared.Numeral.{Numeral}
 use Rattle.text_numerals.specs.declared.Numeral.the-variants.{Number, Nothing}

@@ -9,7 +9,7 @@ use Rattle.paper_board.specs.Paper.View.{Row, View, Live, Invalid, Arc, rowOf, 
 use Rattle.paper_board.specs.Paper.Facts.{Fact, is-arc, Holds}
 use Rattle.paper_board.specs.Paper.Limits.{zeroRow, Within}
 use Rattle.paper_rules.specs.Paper.Entries.{Shown, Drawn, drawn, _⊑_}
-use Rattle.paper_rules.specs.Order.Laws.{shown-refl, shown-invalid}
+use Rattle.paper_rules.specs.Order.OrderLaws.{shown-refl, shown-invalid}
 use Rattle.paper_rules.specs.Update.Updates.{store, link, invalidate}
 use Rattle.paper_rules.specs.Update.Stores.{place, stored-same, stored, linked-old, linked-arcs, unlinked-old, unlinked-kept}
 

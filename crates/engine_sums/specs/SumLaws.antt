@@ -22,8 +22,8 @@ use Rattle.ground_arithmetic.specs.Time.{Moderate, fits, greater, greater-left,
 use Rattle.paper_board.specs.Paper.View.{Side, early, late}
 use Rattle.paper_board.specs.Paper.Limits.{IsTime, firstMinute, jobLimit}
 use Rattle.paper_board.specs.Paper.Values.{turned}
-use Rattle.paper_board.specs.Tests.Ranges.{time-moderate}
-use Rattle.paper_board.specs.Tests.Bounds.{turned-time}
+use Rattle.paper_board.specs.BoardTests.Ranges.{time-moderate}
+use Rattle.paper_board.specs.BoardTests.BoundTime.{turned-time}
 use Rattle.engine_sums.specs.Sums.{boundAt, lengthAt, endAt, Times, Lengths, load, Comes, Strikes, none-struck, struck, Beats, Sum, Exceeds, over}
 
 -- ---- what the code adds fits an i32

@@ -11,7 +11,7 @@ use Rattle.ground_arithmetic.specs.Linear.{whole, plus, minus}
 use Rattle.paper_board.specs.Paper.View.{Row, Side, early, late, bound}
 use Rattle.paper_board.specs.Paper.Limits.{Fits}
 use Rattle.paper_rules.specs.Paper.Entries.{Shown}
-use Rattle.paper_board.specs.Tests.Live.{roomy}
+use Rattle.paper_board.specs.BoardTests.Live.{roomy}
 use Rattle.paper_rules.specs.Update.Updates.{raised, marked}
 
 pub raised-mark : (s : Side) (z : ℤ) (r : Row) → raised s z r .mark ≡ r .mark

@@ -15,11 +15,11 @@ use Rattle.paper_board.specs.declared.Board.{Board}
 use Rattle.paper_board.specs.Paper.View.{view}
 use Rattle.paper_board.specs.Paper.Limits.{Within, IsTime, firstMinute, jobLimit}
 use Rattle.paper_rules.specs.Paper.Rules.{E, D, L}
-use Rattle.paper_board.specs.Tests.Decides.{at-most}
+use Rattle.paper_board.specs.BoardTests.Decides.{at-most}
 use Rattle.paper_board.specs.Paper.Tests.{valid}
-use Rattle.paper_board.specs.Tests.Ranges.{ranges}
+use Rattle.paper_board.specs.BoardTests.Ranges.{ranges}
 use Rattle.paper_plans.specs.Paper.Tries.{Outcome, add, _orElse_, startAfter, inTime, ready, tries}
-use Rattle.call_placements.specs.Rest.{stack, here, back}
+use Rattle.call_placements.specs.Stack.{stack, here, back}
 use Rattle.call_placements.specs.Waiting.{order, Waiting, WaitingWord, waitingCount, ready-word}
 
 -- what an array of the code has at a place

@@ -20,7 +20,7 @@ use Rattle.text_scans.specs.Scan.{places, placed, scanned}
 use Rattle.text_forms.specs.declared.table.Match.{Match}
 use Rattle.text_forms.specs.LineLaws.{inLine, lineLength, no-lines, lines-ended, lines-unended}
 use Rattle.text_forms.specs.Paper.Lines.{ended, linesOf}
-use Rattle.text_forms.specs.Table.{scans, firstIn}
+use Rattle.text_forms.specs.FormTable.{scans, firstIn}
 
 -- what is found k lines further down
 abbrev past : ℕ → Match → Match

@@ -17,8 +17,8 @@ use Rattle.paper_board.specs.Paper.View.{View, Valid, Arc, Side, early, late, b
 use Rattle.paper_board.specs.Paper.Limits.{Within, jobLimit}
 use Rattle.paper_rules.specs.Paper.Rules.{D, energy}
 use Rattle.paper_rules.specs.Paper.Energy.{SumR4, DifferenceR5}
-use Rattle.paper_board.specs.Tests.Decides.{Decides}
-use Rattle.paper_board.specs.Tests.Ranges.{ranges}
+use Rattle.paper_board.specs.BoardTests.Decides.{Decides}
+use Rattle.paper_board.specs.BoardTests.Ranges.{ranges}
 use Rattle.engine_sums.specs.declared.EnergyBound.{EnergyBound}
 use Rattle.engine_sums.specs.declared.EnergyBound.the-variants.{Unbounded, At}
 use Rattle.paper_rules.specs.Inference.SumBeyond.{SumBeyond}

@@ -8,8 +8,8 @@ use Rattle.text_decimals.specs.Bytes.{bytes}
 use Rattle.text_formats.specs.Format.{filled}
 use Rattle.paper_board.specs.Paper.Limits.{jobLimit}
 use Rattle.paper_rules.specs.Paper.Schedules.{Placing}
-use Rattle.paper_entries.specs.Paper.Answers.{Reply, ok-number, ok, no-number, RowReply, shows-row, no-row, PairReply, shows-pair, no-pair}
-use Rattle.paper_plans.specs.Paper.Answers.{PlanReply, plan-found, plan-none, plan-spent, no-plan}
+use Rattle.paper_entries.specs.Paper.Replies.{Reply, ok-number, ok, no-number, RowReply, shows-row, no-row, PairReply, shows-pair, no-pair}
+use Rattle.paper_plans.specs.Paper.PlanReply.{PlanReply, plan-found, plan-none, plan-spent, no-plan}
 use Rattle.paper_plans.specs.Paper.Lists.{range}
 
 -- a text with naturals at its marks `@` and numbers at its marks `#`, in turn

@@ -12,11 +12,11 @@ use borrow.Author.Tests.{leb-false, not-false}
 use Rattle.ground_arithmetic.specs.Bools.{refuted, and-parts}
 use Rattle.ground_arithmetic.specs.Linear.{whole, none-below}
 use Rattle.paper_board.specs.Paper.Limits.{IsTime, IsLength, jobLimit}
-use Rattle.paper_board.specs.Tests.Decides.{Decides, _and_}
-use Rattle.paper_board.specs.Tests.LimitsDecided.{decides-between, decides-time, decides-length}
+use Rattle.paper_board.specs.BoardTests.Decides.{Decides, _and_}
+use Rattle.paper_board.specs.BoardTests.LimitsDecided.{decides-between, decides-time, decides-length}
 use Rattle.paper_entries.specs.Paper.Entry.{mark, cut, addition, other, number}
-use Rattle.paper_entries.specs.Paper.Gate.{Check, isJob, jobCheck, pairChecks, timeCheck, windowCheck, checks, gate}
-use Rattle.paper_entries.specs.Lines.{passed}
+use Rattle.paper_entries.specs.Paper.Checks.{Check, isJob, jobCheck, pairChecks, timeCheck, windowCheck, checks, gate}
+use Rattle.paper_entries.specs.CheckLines.{passed}
 
 -- the number of a job on a board of n jobs
 pub record IsJob (n : ℕ) (z : ℤ) : Type 0 where

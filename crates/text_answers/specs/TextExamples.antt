@@ -6,12 +6,12 @@ use Rattle.ground_sets.specs.Bit.{bit, with, without, union, difference, single
 use Rattle.ground_arithmetic.specs.Linear.{eqZ}
 use Rattle.ground_arithmetic.specs.Sum.{sum, count}
 use Rattle.paper_board.specs.Paper.Tests.{implies, between, live, valid}
-use Rattle.paper_board.specs.Tests.Limits.{all, isZero, fits, isZeroRow, full, shape, holdsJob, holdsNothing, joinable, agrees, withinLimits}
+use Rattle.paper_board.specs.BoardTests.WithinLimits.{all, isZero, fits, isZeroRow, full, shape, holdsJob, holdsNothing, joinable, agrees, withinLimits}
 use Rattle.paper_rules.specs.Update.Updates.{exclude, tighten, update, _andThen_}
 use Rattle.paper_closure.specs.Find.{guard, _orElse_, first, any, beyond, tooLate, joined, pushers, pushed, push, next, find}
 use Rattle.paper_closure.specs.Closing.{close, closure}
 use Rattle.paper_closure.specs.Check.{nothingLeft, passes}
-use Rattle.paper_entries.specs.Paper.Gate.{gate}
+use Rattle.paper_entries.specs.Paper.Checks.{gate}
 use Rattle.paper_entries.specs.Paper.Enter.{updateAll, raw, closureWith, enter}
 use Rattle.paper_entries.specs.Paper.Looking.{row, pair}
 use Rattle.paper_plans.specs.Paper.Lists.{range, keep, every, among}
@@ -22,7 +22,7 @@ use Rattle.text_decimals.specs.Decimal.{natural}
 use Rattle.text_numerals.specs.Numerals.{naturalAt, numberAt}
 use Rattle.text_formats.specs.Format.{scan, filled}
 use Rattle.text_forms.specs.Paper.Forms.{firstOf}
-use Rattle.text_replies.specs.Paper.Replies.{placementsText}
+use Rattle.text_replies.specs.Paper.ReplyTexts.{placementsText}
 use Rattle.text_forms.specs.Paper.Lines.{linesOf}
 use Rattle.text_answers.specs.Paper.Text.{carriedOut, serve, answer, output}
 

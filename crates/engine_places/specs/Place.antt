@@ -16,9 +16,9 @@ use Rattle.ground_arithmetic.specs.Linear.{whole}
 use Rattle.paper_board.specs.Paper.View.{Row}
 use Rattle.paper_board.specs.Paper.Limits.{zeroRow, RowLimits}
 use Rattle.paper_board.specs.Paper.Tests.{between, isLength, isTime}
-use Rattle.paper_board.specs.Tests.Limits.{isZero, isZeroRow, fits}
-use Rattle.paper_board.specs.Tests.Decides.{Decides, restated, same-decision, holds, negated, _and_, eq}
-use Rattle.paper_board.specs.Tests.LimitsDecided.{decides-between, decides-zero, decides-fits, decides-zeroRow}
+use Rattle.paper_board.specs.BoardTests.WithinLimits.{isZero, isZeroRow, fits}
+use Rattle.paper_board.specs.BoardTests.Decides.{Decides, restated, same-decision, holds, negated, _and_, eq}
+use Rattle.paper_board.specs.BoardTests.LimitsDecided.{decides-between, decides-zero, decides-fits, decides-zeroRow}
 
 -- ---- rows
 

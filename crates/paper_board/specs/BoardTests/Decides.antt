@@ -13,8 +13,8 @@ use Rattle.ground_arithmetic.specs.Bools.{clash, is-false, refuted, and-parts, 
 use Rattle.ground_arithmetic.specs.Linear.{whole}
 use Rattle.paper_board.specs.Paper.View.{View, Live, Valid}
 use Rattle.paper_board.specs.Paper.Tests.{live, valid, implies}
-use Rattle.paper_board.specs.Tests.Live.{live-yes, live-show, valid-yes, valid-show}
-use Rattle.paper_board.specs.Tests.Limits.{all}
+use Rattle.paper_board.specs.BoardTests.Live.{live-yes, live-show, valid-yes, valid-show}
+use Rattle.paper_board.specs.BoardTests.WithinLimits.{all}
 
 pub record Decides (t : Bool) (P : Type 0) : Type 0 where
   pub yes : t ≡ true → P

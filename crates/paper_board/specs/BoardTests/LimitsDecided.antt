@@ -19,8 +19,8 @@ use Rattle.paper_board.specs.declared.Books.{Books}
 use Rattle.paper_board.specs.Paper.View.{Row, view, rowOf, arcOf, arcIntoOf, Live, Arc}
 use Rattle.paper_board.specs.Paper.Limits.{jobLimit, tallyLimit, IsTime, IsLength, Fits, zeroRow, RowLimits, Shape, Within, BooksWithin}
 use Rattle.paper_board.specs.Paper.Tests.{live, between, isTime, isLength}
-use Rattle.paper_board.specs.Tests.Limits.{isZero, fits, isZeroRow, full, shape, holdsJob, holdsNothing, joinable, agrees, withinLimits, booksLimits}
-use Rattle.paper_board.specs.Tests.Decides.{Decides, restated, _and_, implied, negated, every, holds, le, lt, eq, same, live-is, at-most}
+use Rattle.paper_board.specs.BoardTests.WithinLimits.{isZero, fits, isZeroRow, full, shape, holdsJob, holdsNothing, joinable, agrees, withinLimits, booksLimits}
+use Rattle.paper_board.specs.BoardTests.Decides.{Decides, restated, _and_, implied, negated, every, holds, le, lt, eq, same, live-is, at-most}
 
 -- ---- rows
 

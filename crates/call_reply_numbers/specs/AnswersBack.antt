@@ -17,7 +17,7 @@ use Rattle.paper_entries.specs.declared.RowAnswer.the-variants as Rows
 use Rattle.paper_entries.specs.declared.PairAnswer.{PairAnswer}
 use Rattle.paper_entries.specs.declared.PairAnswer.the-variants as Pairs
 use Rattle.paper_entries.specs.Paper.Entry.{Entry, addition, other}
-use Rattle.paper_entries.specs.Paper.Gate.{checks, gate}
+use Rattle.paper_entries.specs.Paper.Checks.{checks, gate}
 use Rattle.paper_entries.specs.Paper.Enter.{acceptance, concluded, judged, closureWith, enter}
 use Rattle.paper_plans.specs.declared.PlanAnswer.{PlanAnswer}
 use Rattle.paper_plans.specs.declared.PlanAnswer.the-variants as Plans
@@ -26,7 +26,7 @@ use Rattle.call_reply_numbers.specs.declared.Reply.{Reply}
 use Rattle.call_reply_numbers.specs.declared.RowReply.{RowReply}
 use Rattle.call_reply_numbers.specs.declared.PairReply.{PairReply}
 use Rattle.call_reply_numbers.specs.declared.PlanReply.{PlanReply}
-use Rattle.call_reply_numbers.specs.Replies.{entryReply, rowReply, pairReply, ending, planNumber, planReply}
+use Rattle.call_reply_numbers.specs.ReplyNumbers.{entryReply, rowReply, pairReply, ending, planNumber, planReply}
 
 -- the refusal with a number
 abbrev table : List Refusal

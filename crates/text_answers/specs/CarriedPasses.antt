@@ -19,20 +19,20 @@ use Rattle.paper_board.specs.Paper.Refusals.{numberOf}
 use Rattle.paper_board.specs.Paper.View.{View, view}
 use Rattle.paper_board.specs.Paper.Tests.{live}
 use Rattle.paper_closure.specs.Check.{passes}
-use Rattle.paper_closure.specs.Checked.{empty-passes}
+use Rattle.paper_closure.specs.PassesClosed.{empty-passes}
 use Rattle.text_forms.specs.Paper.Forms.{formOf}
 use Rattle.paper_entries.specs.Paper.Entry.{Entry, number}
-use Rattle.paper_entries.specs.Paper.Values.{entryOf}
-use Rattle.paper_entries.specs.Paper.Gate.{Check, jobCheck, pairChecks, budgetCheck, gate}
+use Rattle.paper_entries.specs.Paper.EntryOf.{entryOf}
+use Rattle.paper_entries.specs.Paper.Checks.{Check, jobCheck, pairChecks, budgetCheck, gate}
 use Rattle.paper_entries.specs.Paper.Enter.{enter}
 use Rattle.paper_entries.specs.Paper.Looking.{row, arcs, pair}
-use Rattle.paper_entries.specs.Paper.Answers.{Reply, ok-number, ok, no-number, replyOf, shows-row, no-row, rowReplyOf, shows-pair, no-pair, pairReplyOf}
+use Rattle.paper_entries.specs.Paper.Replies.{Reply, ok-number, ok, no-number, replyOf, shows-row, no-row, rowReplyOf, shows-pair, no-pair, pairReplyOf}
 use Rattle.paper_entries.specs.Answered.{lines, gate-line, answered-board}
 use Rattle.paper_entries.specs.Later.{call-later}
 use Rattle.paper_entries.specs.Stepped.{enter-checked}
-use Rattle.paper_plans.specs.Paper.Answers.{plan-found, plan-none, plan-spent, no-plan, planReplyOf}
+use Rattle.paper_plans.specs.Paper.PlanReply.{plan-found, plan-none, plan-spent, no-plan, planReplyOf}
 use Rattle.paper_plans.specs.Paper.Tries.{Outcome, found, none as exhausted, tries}
-use Rattle.paper_plans.specs.Paper.Exact.{taken}
+use Rattle.paper_plans.specs.Paper.WithinBudget.{taken}
 use Rattle.paper_plans.specs.Paper.Planner as planner
 use Rattle.paper_plans.specs.Paper.Planner.{plan}
 use Rattle.text_forms.specs.declared.Form.{Form}

@@ -14,7 +14,7 @@ use Rattle.text_numerals.specs.DecimalLaws.{natural-digits, natural-valu
 use Rattle.text_decimals.specs.Bytes.{isDigit}
 use Rattle.text_numerals.specs.Prefix.{prefix-within}
 use Rattle.text_numerals.specs.DigitsRead.{startsWithDigit, no-digits, digits-are-first, digit-at}
-use Rattle.text_numerals.specs.Natural.{natural-short, nothing-is-no-number, NaturalRead, natural-found}
+use Rattle.text_numerals.specs.NaturalRead.{natural-short, nothing-is-no-number, NaturalRead, natural-found}
 use Rattle.text_numerals.specs.Numerals.{digits, naturalAt, negative, numberAt, Short}
 use Rattle.text_numerals.specs.declared.Numeral.{Numeral}
 use Rattle.text_numerals.specs.declared.Numeral.the-variants.{Number, Nothing}

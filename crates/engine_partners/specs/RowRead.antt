@@ -16,10 +16,10 @@ use Rattle.paper_board.specs.Paper.View.{View, Live, Valid, Arc, view}
 use Rattle.paper_board.specs.Paper.Limits.{Within}
 use Rattle.paper_rules.specs.Paper.Rules.{E, D, L}
 use Rattle.paper_board.specs.Paper.Tests.{live, valid}
-use Rattle.paper_board.specs.Tests.Decides.{Decides, retested, _and_, holds, live-is, valid-is}
+use Rattle.paper_board.specs.BoardTests.Decides.{Decides, retested, _and_, holds, live-is, valid-is}
 use Rattle.engine_pair_rules.specs.PairSearched.{PairRead}
 use Rattle.engine_partners.specs.Partners.{OrderKnown, OrderLeft, JoinKnown, JoinLeft, or-parts}
-use Rattle.engine_partners.specs.Settled.{PairsLeft}
+use Rattle.engine_partners.specs.PairSettled.{PairsLeft}
 
 -- the numbers and words are those of the board at the live job i, with `before` and `after` its sets and `end` its earliest end
 pub record RowRead (b : Board) (i lives valids before after : ℕ) (end : ℤ) (latest lengths : List ℤ) (afters : List ℕ) : Type 0 where

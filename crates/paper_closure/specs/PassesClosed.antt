@@ -10,8 +10,8 @@ use Rattle.paper_board.specs.Paper.View.{view}
 use Rattle.paper_board.specs.Paper.Facts.{Fact}
 use Rattle.paper_rules.specs.Inference.Infers.{Obeys}
 use Rattle.paper_board.specs.Paper.Limits.{Within, BooksWithin, emptyBoard}
-use Rattle.paper_board.specs.Tests.Limits.{withinLimits, booksLimits}
-use Rattle.paper_board.specs.Tests.LimitsDecided.{limits-yes, limits-show, decides-books}
+use Rattle.paper_board.specs.BoardTests.WithinLimits.{withinLimits, booksLimits}
+use Rattle.paper_board.specs.BoardTests.LimitsDecided.{limits-yes, limits-show, decides-books}
 use Rattle.paper_rules.specs.Order.Empty.{within-empty, empty-obeys}
 use Rattle.paper_rules.specs.Paper.Entries.{shown}
 use Rattle.paper_rules.specs.Paper.Closed.{Closed, Least}

@@ -9,7 +9,7 @@ use Rattle.paper_rules.specs.Paper.Entries.{Entries}
 use Rattle.paper_rules.specs.Paper.Closed.{LeastClosed, Contradiction}
 use Rattle.paper_entries.specs.declared.Entered.{Entered}
 use Rattle.paper_entries.specs.Paper.Entry.{Entry, withEntry}
-use Rattle.paper_entries.specs.Paper.Gate.{checks, gate}
+use Rattle.paper_entries.specs.Paper.Checks.{checks, gate}
 use Rattle.paper_entries.specs.Paper.Enter.{acceptance, counted, refused}
 
 -- The three ways in which a call on a board that passes check 0 can end, where `Contradicts` says when the closure with the

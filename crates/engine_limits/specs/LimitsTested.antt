@@ -15,11 +15,11 @@ use Rattle.ground_arithmetic.specs.Bools.{refuted, same-tests}
 use Rattle.paper_board.specs.declared.Board.{Board}
 use Rattle.paper_board.specs.Paper.View.{view, rowOf, arcOf, arcIntoOf, Live, Arc}
 use Rattle.paper_board.specs.Paper.Limits.{jobLimit, RowLimits, Shape, Within}
-use Rattle.paper_board.specs.Tests.Limits.{withinLimits}
-use Rattle.paper_board.specs.Tests.Decides.{Decides, restated, same-decision}
-use Rattle.paper_board.specs.Tests.LimitsDecided.{decides-limits, past, past-row}
+use Rattle.paper_board.specs.BoardTests.WithinLimits.{withinLimits}
+use Rattle.paper_board.specs.BoardTests.Decides.{Decides, restated, same-decision}
+use Rattle.paper_board.specs.BoardTests.LimitsDecided.{decides-limits, past, past-row}
 use Rattle.engine_agreement.specs.Agreement.{Agree}
-use Rattle.engine_places.specs.Places.{row, Place, blank-limits}
+use Rattle.engine_places.specs.Place.{row, Place, blank-limits}
 
 -- what place k holds, and what every place holds
 abbrev pub PlaceAt : ℕ → List ℕ → List ℤ → List ℤ → List ℤ → List ℕ → List ℕ → ℕ → Type 0

@@ -16,12 +16,12 @@ use Rattle.paper_board.specs.declared.Refusal.the-variants as Refused
 use Rattle.paper_board.specs.Paper.Refusals.{numberOf}
 use Rattle.paper_closure.specs.Check.{passes}
 use Rattle.text_forms.specs.Paper.Forms.{formOf}
-use Rattle.text_replies.specs.Paper.Replies.{refusalText}
+use Rattle.text_replies.specs.Paper.ReplyTexts.{refusalText}
 use Rattle.text_replies.specs.Room.{longest}
 use Rattle.text_forms.specs.Paper.Lines.{linesOf}
 use Rattle.text_answers.specs.Paper.Text.{Served, carriedOut, serve}
 use Rattle.text_answers.specs.Carried.{Gives}
-use Rattle.text_answers.specs.Checked.{carried-passes}
+use Rattle.text_answers.specs.CarriedPasses.{carried-passes}
 use Rattle.text_forms.specs.LineLaws.{lineLength}
 use Rattle.text_pieces.specs.Serving.{Continues, continues-start, continues-then, continues-line, continues-last, Answers}
 

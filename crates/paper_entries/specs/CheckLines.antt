@@ -4,7 +4,7 @@ use mathlib.Core.Bool.{Bool, true, false}
 use mathlib.Core.List.{List, [], _∷_}
 use mathlib.Core.Option.{Option, none, some}
 use Rattle.ground_arithmetic.specs.Bools.{clash}
-use Rattle.paper_entries.specs.Paper.Gate.{Check, gate}
+use Rattle.paper_entries.specs.Paper.Checks.{Check, gate}
 
 pub no-line : none ≡ gate []
 unfolding gate

@@ -12,18 +12,18 @@ use Rattle.paper_entries.specs.declared.RowAnswer.{RowAnswer}
 use Rattle.paper_entries.specs.declared.RowAnswer.the-variants as Rows
 use Rattle.paper_entries.specs.declared.PairAnswer.{PairAnswer}
 use Rattle.paper_entries.specs.declared.PairAnswer.the-variants as Pairs
-use Rattle.paper_entries.specs.Paper.Answers.{replyOf, rowReplyOf, pairReplyOf}
+use Rattle.paper_entries.specs.Paper.Replies.{replyOf, rowReplyOf, pairReplyOf}
 use Rattle.paper_entries.specs.Paper.Enter.{enter}
 use Rattle.paper_entries.specs.Paper.Entry.{Entry}
 use Rattle.paper_entries.specs.Paper.Looking as Looking
 use Rattle.paper_plans.specs.declared.PlanAnswer.{PlanAnswer}
 use Rattle.paper_plans.specs.declared.PlanAnswer.the-variants as Plans
 use Rattle.paper_plans.specs.declared.Planned.{Planned}
-use Rattle.paper_plans.specs.Paper.Answers.{planReplyOf}
+use Rattle.paper_plans.specs.Paper.PlanReply.{planReplyOf}
 use Rattle.paper_plans.specs.Paper.Planner as Planner
 use Rattle.paper_demands.specs.Demand1Holds.{demand1}
 use Rattle.paper_requests.specs.Paper.Requests.{entry, row, pair, plan, a-row, a-pair, a-plan, sortOf, refusalsOf, entryRefusal, rowRefusal, pairRefusal, planRefusal}
-use Rattle.call_reply_numbers.specs.Replies.{entryReply, rowReply, pairReply, planReply}
+use Rattle.call_reply_numbers.specs.ReplyNumbers.{entryReply, rowReply, pairReply, planReply}
 
 -- a reply that isn't accepted has the number of the refusal
 entry-number : (a : Answer) → entryReply a .accepted ≡ false → entryRefusal (replyOf a) ≡ some (entryReply a .number)
