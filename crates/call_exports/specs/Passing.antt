@@ -6,7 +6,7 @@ use Rattle.paper_board.specs.declared.Board.{Board}
 use Rattle.paper_board.specs.Paper.Limits.{emptyBoard}
 use Rattle.paper_board.specs.Paper.Parts.{emptyBooks}
 use Rattle.paper_rules.specs.Order.Empty.{within-emptyBooks}
-use Rattle.paper_closure.specs.Check.{passes}
+use Rattle.paper_closure.specs.Passes.{passes}
 use Rattle.paper_closure.specs.PassesClosed as checked
 use Rattle.paper_entries.specs.Paper.Entry.{Entry}
 use Rattle.paper_entries.specs.Paper.Enter.{enter}

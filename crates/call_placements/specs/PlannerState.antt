@@ -18,7 +18,7 @@ use Rattle.paper_rules.specs.Paper.Rules.{E, D, L}
 use Rattle.paper_board.specs.BoardTests.Decides.{at-most}
 use Rattle.paper_board.specs.Paper.Tests.{valid}
 use Rattle.paper_board.specs.BoardTests.Ranges.{ranges}
-use Rattle.paper_plans.specs.Paper.Tries.{Outcome, add, _orElse_, startAfter, inTime, ready, tries}
+use Rattle.paper_plans.specs.Paper.Tries.{Ending, add, _orElse_, startAfter, inTime, ready, tries}
 use Rattle.call_placements.specs.Stack.{stack, here, back}
 use Rattle.call_placements.specs.Waiting.{order, Waiting, WaitingWord, waitingCount, ready-word}
 
@@ -49,21 +49,21 @@ module _ (b : Board) where
       → Placement (stack (at jobs) d) (at jobs d) (at lefts d) (timeAt frees d)
 
   -- each job up to a depth is valid and, placed after those before it, ends in time
-  abbrev pub Timely : List ℕ → ℕ → Type 0
-  Timely jobs depth = (d : ℕ) → d < depth
+  abbrev pub EndInTime : List ℕ → ℕ → Type 0
+  EndInTime jobs depth = (d : ℕ) → d < depth
       → (valid (view b) (at jobs d) ≡ true) × (inTime (view b) (stack (at jobs) d) (at jobs d) ≡ true)
 
-  abbrev pub outcome : Outcome
-  outcome = tries (view b) (order b)
+  abbrev pub ending : Ending
+  ending = tries (view b) (order b)
 
   -- what is left to be tried
-  abbrev pub rest : List ℕ → List ℕ → ℕ → ℕ → Outcome
+  abbrev rest : List ℕ → List ℕ → ℕ → ℕ → Ending
   rest jobs lefts depth left =
       let ps = stack (at jobs) depth in
       here (view b) (order b) (waitingCount b ps) ps left
       orElse back (view b) (order b) (at jobs) (at lefts) (waitingCount b ps) depth
 
-  pub record State (jobs lefts : List ℕ) (frees : List ℤ) (depth unplaced left : ℕ) (free : ℤ) (made budget : ℕ) : Type 0 where
+  pub record PlannerState (jobs lefts : List ℕ) (frees : List ℤ) (depth unplaced left : ℕ) (free : ℤ) (made budget : ℕ) : Type 0 where
     pub jobs-shape : length jobs ≡ jobLimit
     pub lefts-shape : length lefts ≡ jobLimit
     pub frees-shape : length frees ≡ jobLimit
@@ -73,7 +73,7 @@ module _ (b : Board) where
     pub dock : FreeFrom (stack (at jobs) depth) free
     pub affordable : made ≤ budget
     pub counted : depth + waitingCount b (stack (at jobs) depth) ≡ length (order b)
-    pub so-far : outcome ≡ add made (rest jobs lefts depth left)
+    pub so-far : ending ≡ add made (rest jobs lefts depth left)
 
   module _ (h : Within b) where
     -- before any job

@@ -8,8 +8,8 @@ use native.Mathlib.Omega.{arith}
 use Rattle.ground_sets.specs.Bit.{bit}
 use Rattle.paper_board.specs.Paper.View.{View}
 use Rattle.paper_plans.specs.Paper.Lists.{range, keep}
-use Rattle.paper_plans.specs.Paper.Tries.{Outcome, found, none, add, _orElse_, ready, inTime, unplaced, try, from, search}
-use Rattle.paper_plans.specs.OutcomeLaws.{add-zero, add-add, add-orElse, orElse-assoc}
+use Rattle.paper_plans.specs.Paper.Tries.{Ending, found, none, add, _orElse_, ready, inTime, unplaced, try, from, search}
+use Rattle.paper_plans.specs.EndingLaws.{add-zero, add-add, add-orElse, orElse-assoc}
 
 -- the jobs placed up to a depth, the last one first
 unfoldable pub stack : (ℕ → ℕ) → ℕ → List ℕ
@@ -27,12 +27,12 @@ members v w = keep (bit w) (range 0 (v .jobs))
 
 module _ (v : View) (order : List ℕ) where
   -- the tries from the list ps where n jobs are not placed and those of `left` are still to be tried
-  unfoldable pub here : ℕ → List ℕ → ℕ → Outcome
+  unfoldable pub here : ℕ → List ℕ → ℕ → Ending
   here zero ps left = found 0 ps
   here (suc n) ps left = from v order (search v order n) ps (members v left)
 
   -- the tries once the last placing is taken back, and then those before it
-  unfoldable pub back : (ℕ → ℕ) → (ℕ → ℕ) → ℕ → ℕ → Outcome
+  unfoldable pub back : (ℕ → ℕ) → (ℕ → ℕ) → ℕ → ℕ → Ending
   back jobs lefts n zero = none 0
   back jobs lefts n (suc d) = here (suc n) (stack jobs d) (lefts d) orElse back jobs lefts (suc n) d
 
@@ -53,7 +53,7 @@ module _ (v : View) (order : List ℕ) where
   search-here (suc n) ps left e = rw e
 
   -- the moves: `whole` is what the tries come to, of which t have been made
-  module _ (whole : Outcome) (t n : ℕ) (ps : List ℕ) (left : ℕ) (later : Outcome)
+  module _ (whole : Ending) (t n : ℕ) (ps : List ℕ) (left : ℕ) (later : Ending)
       (so-far : whole ≡ add t (here (suc n) ps left orElse later)) where
     -- nothing is left to be tried from this list
     pub tried-all : members v left ≡ [] → whole ≡ add t later
@@ -80,7 +80,7 @@ module _ (v : View) (order : List ℕ) where
       placed e = try-due ∙ ap (add (t + 1)) (rw e)
 
   -- all jobs are placed
-  pub all-found : (whole : Outcome) (t : ℕ) (ps : List ℕ) (left : ℕ) (later : Outcome)
+  pub all-found : (whole : Ending) (t : ℕ) (ps : List ℕ) (left : ℕ) (later : Ending)
       → whole ≡ add t (here 0 ps left orElse later) → whole ≡ found t ps
   unfolding here _orElse_ add
   all-found whole t ps left later e = e ∙ ap (λ (n : ℕ). found n ps) (omega arith)

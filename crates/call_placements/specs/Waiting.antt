@@ -76,7 +76,7 @@ module _ (b : Board) where
   count-placed j ps waits = one-placed (view b) order ps (valid-distinct (view b)) j (order-is j .show (waits .0)) (waits .1)
 
   -- where none waits, all valid jobs are placed
-  pub none-waits : (ps : List ℕ) → waitingCount ps ≡ 0 → (k : ℕ) → Waiting ps k → ⊥
+  none-waits : (ps : List ℕ) → waitingCount ps ≡ 0 → (k : ℕ) → Waiting ps k → ⊥
   none-waits ps e k waits = refuted (waits .1) (all-placed (view b) order ps e k (order-is k .show (waits .0)))
 
   -- where the word is not empty, some job waits

@@ -14,43 +14,43 @@ use Rattle.paper_entries.specs.declared.PairAnswer.the-variants as Pairs
 use Rattle.paper_plans.specs.declared.PlanAnswer.{PlanAnswer}
 use Rattle.paper_plans.specs.declared.PlanAnswer.the-variants as Plans
 use Rattle.paper_plans.specs.declared.Planned.{Planned}
-use Rattle.call_reply_numbers.specs.declared.Reply.{Reply}
-use Rattle.call_reply_numbers.specs.declared.RowReply.{RowReply}
-use Rattle.call_reply_numbers.specs.declared.PairReply.{PairReply}
-use Rattle.call_reply_numbers.specs.declared.PlanReply.{PlanReply}
+use Rattle.call_reply_numbers.specs.declared.ReplyNumbers.{ReplyNumbers}
+use Rattle.call_reply_numbers.specs.declared.RowReplyNumbers.{RowReplyNumbers}
+use Rattle.call_reply_numbers.specs.declared.PairReplyNumbers.{PairReplyNumbers}
+use Rattle.call_reply_numbers.specs.declared.PlanReplyNumbers.{PlanReplyNumbers}
 
 -- "`(ok K)` for an addition, K its number; `(ok)`; `(no R)` with refusal R"
-abbrev pub entryReply : Answer → Reply
-entryReply (Answers.Added k) = record { accepted = true; number = k }
-entryReply Answers.Accepted = record { accepted = true; number = 0 }
-entryReply (Answers.Refused r) = record { accepted = false; number = numberOf r }
+abbrev pub replyNumbers : Answer → ReplyNumbers
+replyNumbers (Answers.Added k) = record { accepted = true; number = k }
+replyNumbers Answers.Accepted = record { accepted = true; number = 0 }
+replyNumbers (Answers.Refused r) = record { accepted = false; number = numberOf r }
 
 -- the same with the board after the entry
 pub record Replied : Type 0 where
-  pub reply : Reply
+  pub reply : ReplyNumbers
   pub board : Board
 
 abbrev pub replied : Entered → Replied
-replied e = record { reply = entryReply (e .answer); board = e .board }
+replied e = record { reply = replyNumbers (e .answer); board = e .board }
 
 -- "Row of a job: mark, E, D, the set before it and the set after it."
-abbrev pub rowReply : RowAnswer → RowReply
-rowReply (Rows.Row m e d before after) =
+abbrev pub rowReplyNumbers : RowAnswer → RowReplyNumbers
+rowReplyNumbers (Rows.Row m e d before after) =
     record { accepted = true; refusal = 0; mark = m; earliest = e; latest = d; before = before; after = after }
-rowReply (Rows.Refused r) =
+rowReplyNumbers (Rows.Refused r) =
     record { accepted = false; refusal = numberOf r; mark = 0; earliest = pos 0; latest = pos 0; before = 0; after = 0 }
 
 -- "Pair of A, B: 0 no arc, 1 A to B, 2 B to A, 3 both; and the gap"
-abbrev pub pairReply : PairAnswer → PairReply
-pairReply (Pairs.Pair arcs gap) = record { accepted = true; refusal = 0; arcs = arcs; gap = gap }
-pairReply (Pairs.Refused r) = record { accepted = false; refusal = numberOf r; arcs = 0; gap = pos 0 }
+abbrev pub pairReplyNumbers : PairAnswer → PairReplyNumbers
+pairReplyNumbers (Pairs.Pair arcs gap) = record { accepted = true; refusal = 0; arcs = arcs; gap = gap }
+pairReplyNumbers (Pairs.Refused r) = record { accepted = false; refusal = numberOf r; arcs = 0; gap = pos 0 }
 
 -- found 0, none 1 or spent 2 with the number of tries; or 3 with the refusal's number
-abbrev pub ending : PlanAnswer → ℕ
-ending (Plans.Found t) = 0
-ending (Plans.None t) = 1
-ending (Plans.Spent t) = 2
-ending (Plans.Refused r) = 3
+abbrev pub endingNumber : PlanAnswer → ℕ
+endingNumber (Plans.Found t) = 0
+endingNumber (Plans.None t) = 1
+endingNumber (Plans.Spent t) = 2
+endingNumber (Plans.Refused r) = 3
 
 abbrev pub planNumber : PlanAnswer → ℕ
 planNumber (Plans.Found t) = t
@@ -59,6 +59,6 @@ planNumber (Plans.Spent t) = t
 planNumber (Plans.Refused r) = numberOf r
 
 -- "its plan [..] holds the placed jobs with their starts"
-abbrev pub planReply : Planned → PlanReply
-planReply p =
-    record { ending = ending (p .answer); number = planNumber (p .answer); placed = p .placed; starts = p .starts }
+abbrev pub planReplyNumbers : Planned → PlanReplyNumbers
+planReplyNumbers p =
+    record { ending = endingNumber (p .answer); number = planNumber (p .answer); placed = p .placed; starts = p .starts }

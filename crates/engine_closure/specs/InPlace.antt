@@ -13,20 +13,20 @@ use Rattle.paper_board.specs.Paper.Facts.{Fact, Holds, Known}
 use Rattle.paper_board.specs.Paper.Limits.{jobLimit, Within}
 use Rattle.paper_board.specs.Paper.Values.{factOf}
 use Rattle.paper_rules.specs.Inference.Infers.{Infers, Obeys}
-use Rattle.paper_rules.specs.Update.Filled.{filled, arrayed, ArraysWithin, possibly, Alters}
+use Rattle.paper_rules.specs.Update.ArraysWithin.{filled, arrayed, ArraysWithin, possibly, Alters}
 use Rattle.paper_rules.specs.Update.Updates.{update}
-use Rattle.paper_rules.specs.Update.Reaches.{Reaches, reached-self, reaches-then, infers-known}
-use Rattle.engine_updates.specs.Applicable.{Timely}
+use Rattle.paper_rules.specs.Update.Derives.{Derives, derived-self, derives-then, infers-known}
+use Rattle.engine_updates.specs.Applicable.{Applicable}
 use Rattle.engine_marks.specs.Marked.{marked, unmarked}
 use Rattle.engine_findings.specs.Searched.{Searched}
 use Rattle.engine_search.specs.PairsWalk.{ReadSearched}
 use Rattle.engine_advance.specs.Advances.{Advances}
-use Rattle.paper_closure.specs.Closing.{closure}
-use Rattle.paper_rules.specs.Inference.Known.{known-more}
+use Rattle.paper_closure.specs.Closure.{closure}
+use Rattle.paper_rules.specs.Inference.KnownMore.{known-more}
 use Rattle.paper_closure.specs.Measure.{measure, measure-mono}
 use Rattle.engine_search.specs.Reads.{board-read}
-use Rattle.engine_closure.specs.Timely.{timely}
-use Rattle.paper_closure.specs.Stepping.{reaches-closure, reached-closure, reached-next, reached-none}
+use Rattle.engine_closure.specs.InferredApplicable.{inferred-applicable}
+use Rattle.paper_closure.specs.DerivedClosure.{derives-closure, derived-closure, derived-next, derived-none}
 
 -- what holds of every board of n jobs within its limits with these arrays
 abbrev OnArrays : (Board → Type 0) → ℕ → List ℤ → List ℤ → List ℤ → List ℕ → List ℕ → List ℕ → Type 0
@@ -45,7 +45,7 @@ measured n lengths earliest latest marks after before b jobs = rw jobs
 
 module _ (n : ℕ) (lengths earliest latest : List ℤ) (marks after before : List ℕ) where
   pub advances-none : Advances n lengths earliest latest marks after before true lengths earliest latest marks after before
-  advances-none b jobs within = reached-self (filled b lengths earliest latest marks after before) within
+  advances-none b jobs within = derived-self (filled b lengths earliest latest marks after before) within
 
   -- a run that ends with a board
   pub advances-possible : (possible : Bool) (lengths' earliest' latest' : List ℤ) (marks' after' before' : List ℕ) → possible ≡ true
@@ -55,52 +55,52 @@ module _ (n : ℕ) (lengths earliest latest : List ℤ) (marks after before : Li
 
   module _ (lengths' earliest' latest' : List ℤ) (marks' after' before' : List ℕ) (run : Advances n lengths earliest latest marks after before true lengths' earliest' latest' marks' after' before') where
     -- one run after another
-    pub advances-then : (possible : Bool) (lengths'' earliest'' latest'' : List ℤ) (marks'' after'' before'' : List ℕ)
+    advances-then : (possible : Bool) (lengths'' earliest'' latest'' : List ℤ) (marks'' after'' before'' : List ℕ)
         → Advances n lengths' earliest' latest' marks' after' before' possible lengths'' earliest'' latest'' marks'' after'' before'' → Advances n lengths earliest latest marks after before possible lengths'' earliest'' latest'' marks'' after'' before''
     advances-then possible lengths'' earliest'' latest'' marks'' after'' before'' more b jobs within =
-        let reached = run b jobs within in
-        reaches-then _ _ reached (possibly possible (filled b lengths'' earliest'' latest'' marks'' after'' before'')) (more b jobs (reached .more .within))
+        let derived = run b jobs within in
+        derives-then _ _ derived (possibly possible (filled b lengths'' earliest'' latest'' marks'' after'' before'')) (more b jobs (derived .more .within))
 
     pub advances-within : ArraysWithin n lengths earliest latest marks after before → ArraysWithin n lengths' earliest' latest' marks' after' before'
     advances-within h = record { board = h .board; jobs = h .jobs; within = run (h .board) (h .jobs) (h .within) .more .within }
 
     -- nothing is left to infer
-    pub arrays-closed : OnArrays (λ b. Obeys (view b)) n lengths' earliest' latest' marks' after' before' → Alters n closure lengths earliest latest marks after before true lengths' earliest' latest' marks' after' before'
+    arrays-closed : OnArrays (λ b. Obeys (view b)) n lengths' earliest' latest' marks' after' before' → Alters n closure lengths earliest latest marks after before true lengths' earliest' latest' marks' after' before'
     arrays-closed obeys b jobs within =
-        let reached = run b jobs within in
-        sym (reached-closure _ _ within reached (obeys b jobs (reached .more .within)))
+        let derived = run b jobs within in
+        sym (derived-closure _ _ within derived (obeys b jobs (derived .more .within)))
 
     -- there is no board
-    pub arrays-none : ((b : Board) → b .jobs ≡ n → Within (filled b lengths' earliest' latest' marks' after' before') → Reaches (filled b lengths' earliest' latest' marks' after' before') none)
+    pub arrays-none : ((b : Board) → b .jobs ≡ n → Within (filled b lengths' earliest' latest' marks' after' before') → Derives (filled b lengths' earliest' latest' marks' after' before') none)
         → (b : Board) → b .jobs ≡ n → Within (filled b lengths earliest latest marks after before) → closure (filled b lengths earliest latest marks after before) ≡ none
     arrays-none more b jobs within =
-        let reached = run b jobs within in
-        sym (reaches-closure _ within (reaches-then _ _ reached none (more b jobs (reached .more .within))))
+        let derived = run b jobs within in
+        sym (derives-closure _ within (derives-then _ _ derived none (more b jobs (derived .more .within))))
 
     -- one more inference
     module _ (f : Fact) (new : OnArrays (Unshown f) n lengths' earliest' latest' marks' after' before') (lengths'' earliest'' latest'' : List ℤ) (marks'' after'' before'' : List ℕ) where
       pub arrays-next : Alters n (λ b. update b f) lengths' earliest' latest' marks' after' before' true lengths'' earliest'' latest'' marks'' after'' before'' → Advances n lengths earliest latest marks after before true lengths'' earliest'' latest'' marks'' after'' before''
       arrays-next step b jobs within =
-          let reached = run b jobs within in
-          let (infers, unshown) = new b jobs (reached .more .within) in
-          reached-next _ _ within reached f infers unshown _ (step b jobs (reached .more .within)) .0
+          let derived = run b jobs within in
+          let (infers, unshown) = new b jobs (derived .more .within) in
+          derived-next _ _ within derived f infers unshown _ (step b jobs (derived .more .within)) .0
 
       pub arrays-less : ArraysWithin n lengths earliest latest marks after before → Alters n (λ b. update b f) lengths' earliest' latest' marks' after' before' true lengths'' earliest'' latest'' marks'' after'' before''
           → measure (arrayed n lengths'' earliest'' latest'' marks'' after'' before'') < measure (arrayed n lengths earliest latest marks after before)
       arrays-less h step =
           let b = h .board in
-          let reached = run b (h .jobs) (h .within) in
-          let (infers, unshown) = new b (h .jobs) (reached .more .within) in
-          let less = reached-next _ _ (h .within) reached f infers unshown _ (step b (h .jobs) (reached .more .within)) .1 in
-          omega (arith, less, measure-mono _ _ (reached .more), measured n lengths'' earliest'' latest'' marks'' after'' before'' b (h .jobs), measured n lengths earliest latest marks after before b (h .jobs))
+          let derived = run b (h .jobs) (h .within) in
+          let (infers, unshown) = new b (h .jobs) (derived .more .within) in
+          let less = derived-next _ _ (h .within) derived f infers unshown _ (step b (h .jobs) (derived .more .within)) .1 in
+          omega (arith, less, measure-mono _ _ (derived .more), measured n lengths'' earliest'' latest'' marks'' after'' before'' b (h .jobs), measured n lengths earliest latest marks after before b (h .jobs))
 
     -- a mark would have to change
     pub arrays-contradict : (f : Fact) → OnArrays (Unshown f) n lengths' earliest' latest' marks' after' before' → OnArrays (λ b. update b f ≡ none) n lengths' earliest' latest' marks' after' before'
         → (b : Board) → b .jobs ≡ n → Within (filled b lengths earliest latest marks after before) → closure (filled b lengths earliest latest marks after before) ≡ none
     arrays-contradict f new step b jobs within =
-        let reached = run b jobs within in
-        let failed = step b jobs (reached .more .within) in
-        sym (reached-none _ _ within reached f (new b jobs (reached .more .within) .0) failed) ∙ failed
+        let derived = run b jobs within in
+        let failed = step b jobs (derived .more .within) in
+        sym (derived-none _ _ within derived f (new b jobs (derived .more .within) .0) failed) ∙ failed
 
 -- Where propagation has led to from the first arrays: to arrays within their limits, with the words of their live and their valid jobs.
 pub record Led (n : ℕ) (lengths₀ earliest₀ latest₀ : List ℤ) (marks₀ after₀ before₀ : List ℕ)
@@ -148,8 +148,8 @@ module _ {n : ℕ} {lengths₀ earliest₀ latest₀ : List ℤ} {marks₀ after
     pub led-placed : Known jobLimit f
     led-placed = known-more (omega (arith, h .within .jobs, h .within .within .limits .jobs)) f led-known
 
-  pub led-timely : (f : Facts.Fact) → o ≡ some (factOf f) → Timely f
-  led-timely f e =
+  pub led-applicable : (f : Facts.Fact) → o ≡ some (factOf f) → Applicable f
+  led-applicable f e =
       let b = h .within .board in
       let (infers, unshown) = led-unshown (factOf f) e b (h .within .jobs) (h .within .within) in
-      timely (filled b lengths earliest latest marks after before) (h .within .within) f infers unshown
+      inferred-applicable (filled b lengths earliest latest marks after before) (h .within .within) f infers unshown

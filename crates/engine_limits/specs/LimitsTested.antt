@@ -18,7 +18,7 @@ use Rattle.paper_board.specs.Paper.Limits.{jobLimit, RowLimits, Shape, Within}
 use Rattle.paper_board.specs.BoardTests.WithinLimits.{withinLimits}
 use Rattle.paper_board.specs.BoardTests.Decides.{Decides, restated, same-decision}
 use Rattle.paper_board.specs.BoardTests.LimitsDecided.{decides-limits, past, past-row}
-use Rattle.engine_agreement.specs.Agreement.{Agree}
+use Rattle.engine_agreement.specs.Agree.{Agree}
 use Rattle.engine_places.specs.Place.{row, Place, blank-limits}
 
 -- what place k holds, and what every place holds
@@ -26,16 +26,16 @@ abbrev pub PlaceAt : ℕ → List ℕ → List ℤ → List ℤ → List ℤ →
 PlaceAt n marks lengths earliest latest after before k =
     Place n k (row (getD marks k 0) (getD lengths k (pos 0)) (getD earliest k (pos 0)) (getD latest k (pos 0))) (getD after k 0) (getD before k 0)
 
-abbrev pub Places : ℕ → List ℕ → List ℤ → List ℤ → List ℤ → List ℕ → List ℕ → Type 0
-Places n marks lengths earliest latest after before = (k : ℕ) → k < jobLimit → PlaceAt n marks lengths earliest latest after before k
+abbrev pub EveryPlace : ℕ → List ℕ → List ℤ → List ℤ → List ℤ → List ℕ → List ℕ → Type 0
+EveryPlace n marks lengths earliest latest after before = (k : ℕ) → k < jobLimit → PlaceAt n marks lengths earliest latest after before k
 
 -- ---- the board
 
 module _ (b : Board) where
-  abbrev pub Held : Type 0
-  Held = Places (b .jobs) (b .marks) (b .lengths) (b .earliest) (b .latest) (b .after) (b .before)
+  abbrev pub PlacesHeld : Type 0
+  PlacesHeld = EveryPlace (b .jobs) (b .marks) (b .lengths) (b .earliest) (b .latest) (b .after) (b .before)
 
-  within-held : Within b → Held
+  within-held : Within b → PlacesHeld
   within-held w k l = (w .limits .rows k, (after, before))
     where
       below : {x : ℕ} → x < b .jobs → x < width
@@ -56,7 +56,7 @@ module _ (b : Board) where
         go (yes l) = l
         go (no l) = absurd (refuted (bit-zero k) (rw (past words 0 full i (omega arith)) at e))
 
-    held-within : Held → Agree (b .after) (b .before) → Within b
+    held-within : PlacesHeld → Agree (b .after) (b .before) → Within b
     held-within h agree =
         record {
           shape = s;
@@ -84,7 +84,7 @@ module _ (b : Board) where
             ((li, vi), (lk, vk), n)
 
     -- tests of the places and of the agreement test the limits
-    pub limits-tested : {t : Bool} → Decides t (Held × Agree (b .after) (b .before)) → t ≡ withinLimits b
+    pub limits-tested : {t : Bool} → Decides t (PlacesHeld × Agree (b .after) (b .before)) → t ≡ withinLimits b
     limits-tested d =
         same-decision
         (restated d (λ h. held-within (h .0) (h .1)) (λ w. (within-held w, λ i k li lk. w .twice i k)))

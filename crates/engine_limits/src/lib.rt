@@ -17,7 +17,7 @@ fn places_hold<'a>(
     after: &'a [u64; Board::JOBS],
     before: &'a [u64; Board::JOBS],
 ) -> bool
-    ensures { λ r. ⌜ Decides r (parts.Places jobs (now (marks .entry)) (now (lengths .entry)) (now (earliest .entry)) (now (latest .entry)) (now (after .entry)) (now (before .entry))) ⌝ }
+    ensures { λ r. ⌜ Decides r (parts.EveryPlace jobs (now (marks .entry)) (now (lengths .entry)) (now (earliest .entry)) (now (latest .entry)) (now (after .entry)) (now (before .entry))) ⌝ }
 {
     for k in 0..Board::JOBS {
         if !place_holds(

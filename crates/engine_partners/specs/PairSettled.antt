@@ -23,7 +23,7 @@ use Rattle.engine_findings.specs.Searched.{PairObeys, PairsObey, JobsObey, all-
 
 module _ (v : View) where
   -- there are arcs from i to all jobs after m
-  abbrev pub Joins : ℕ → ℕ → Type 0
+  abbrev Joins : ℕ → ℕ → Type 0
   Joins i m = (c : ℕ) → Arc v m c → i ≢ c → Arc v i c
 
   pub record PairSettled (i k : ℕ) : Type 0 where
@@ -99,8 +99,8 @@ module _ (v : View) (jobs : JobsObey v) where
 
 -- ---- all rules
 
-pub settled-obey : (b : Board) → Within b → PairsSettled (view b) → JobsObey (view b) → Obeys (view b)
-settled-obey b h pairs jobs = all-obey (view b) (h .limits .arcs) obeyed jobs
+pub pairs-settled-obey : (b : Board) → Within b → PairsSettled (view b) → JobsObey (view b) → Obeys (view b)
+pairs-settled-obey b h pairs jobs = all-obey (view b) (h .limits .arcs) obeyed jobs
   where
     obeyed : PairsObey (view b)
     obeyed i li k (lk, ne) =

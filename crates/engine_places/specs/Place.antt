@@ -7,7 +7,6 @@ use native.Mathlib.Decide.{decLt}
 use native.Mathlib.Omega.{arith}
 use lib.Dec.{eqb}
 use lib.IntN.{ℤ, pos}
-use lib.ListN.{length}
 use borrow.Author.Tests.{eq-eqb}
 use Rattle.ground_sets.specs.Bit.{bit, width, union}
 use Rattle.ground_sets.specs.BitLaws.{bit-zero, bit-high, bit-ext, union-none}
@@ -75,8 +74,8 @@ module _ (n k m : ℕ) (l e d : ℤ) where
 -- ---- words
 
 -- The members of the words of place k: the place is a live job's, and no arc leads from it to itself.
-abbrev pub Joins : ℕ → ℕ → ℕ → ℕ → ℕ → Type 0
-Joins n k m after before =
+abbrev PlaceArcs : ℕ → ℕ → ℕ → ℕ → ℕ → Type 0
+PlaceArcs n k m after before =
     ((x : ℕ) → bit after x ≡ true → (k < n) × (m ≢ 2) × (x < width) × (k ≢ x))
     × ((x : ℕ) → bit before x ≡ true → (k < n) × (m ≢ 2) × (x < width))
 
@@ -89,7 +88,7 @@ member-below n w x l e = go (decLt x n)
     go (no h) = absurd (refuted (bit-high n w x l (omega arith)) e)
 
 module _ (n k m after before : ℕ) where
-  decides-none : (k < n → m ≢ 2 → ⊥) → Decides (eqb (union after before) 0) (Joins n k m after before)
+  decides-none : (k < n → m ≢ 2 → ⊥) → Decides (eqb (union after before) 0) (PlaceArcs n k m after before)
   unfolding union
   decides-none dead = restated (eq (union after before) 0) none λ (a, b).
       rw (empty after (λ x e. let (l, v, w, s) = a x e in dead l v), empty before (λ x e. let (l, v, w) = b x e in dead l v))
@@ -97,13 +96,13 @@ module _ (n k m after before : ℕ) where
       out : (word : ℕ) → word ≡ 0 → (x : ℕ) → bit word x ≡ true → ⊥
       out word z x e = refuted (bit-zero x) (rw z at e)
 
-      none : union after before ≡ 0 → Joins n k m after before
+      none : union after before ≡ 0 → PlaceArcs n k m after before
       none e = let (a, b) = union-none after before e in (λ x h. absurd (out after a x h), λ x h. absurd (out before b x h))
 
       empty : (word : ℕ) → ((x : ℕ) → bit word x ≡ true → ⊥) → word ≡ 0
       empty word h = bit-ext word 0 λ x. is-false (bit word x) (h x) ∙ sym (bit-zero x)
 
-  decides-own : k < n → m ≢ 2 → after < 2 ^ width → before < 2 ^ width → Decides (not (bit after k)) (Joins n k m after before)
+  decides-own : k < n → m ≢ 2 → after < 2 ^ width → before < 2 ^ width → Decides (not (bit after k)) (PlaceArcs n k m after before)
   decides-own l v fa fb =
       restated (negated (holds (bit after k)))
       (λ own. (λ x e. (l, v, member-below width after x fa e, λ s. own (ap (bit after) s ∙ e)), λ x e. (l, v, member-below width before x fb e)))
@@ -119,7 +118,7 @@ abbrev pub isLivePlace : ℕ → ℤ → ℤ → ℤ → ℕ → Bool
 isLivePlace k l e d after = (isLength l && isTime e && isTime d) && not (bit after k)
 
 abbrev pub Place : ℕ → ℕ → Row → ℕ → ℕ → Type 0
-Place n k r after before = RowLimits n k r × Joins n k (r .mark) after before
+Place n k r after before = RowLimits n k r × PlaceArcs n k (r .mark) after before
 
 -- a place without a job, with an invalid job, and with a live one
 module _ (n k m : ℕ) (l e d : ℤ) (after before : ℕ) where

@@ -2,5 +2,5 @@
 pub mod Sums
 pub mod RaiseExact
 pub mod SumLaws
-pub mod Members
+pub mod TotalWithout
 pub mod Single

@@ -40,8 +40,8 @@ module _ {lengths : List ℤ} (work : Lengths lengths) where
   length-fits k = fits _ (omega (whole, work .low k)) (omega (whole, work .high k))
 
   -- 64 lengths come to 640000 at most
-  pub length-moderate : (k : ℕ) → Moderate (lengthAt lengths k)
-  length-moderate k = (omega (whole, work .low k), omega (whole, work .high k))
+  pub lengthAt-moderate : (k : ℕ) → Moderate (lengthAt lengths k)
+  lengthAt-moderate k = (omega (whole, work .low k), omega (whole, work .high k))
 
   pub load-range : (S : ℕ → Bool) → (pos 0 ≤ℤ total jobLimit S (lengthAt lengths)) × (total jobLimit S (lengthAt lengths) ≤ℤ pos 640000)
   load-range S = total-range jobLimit 10000 S (lengthAt lengths) λ k. (work .low k, work .high k)
@@ -64,8 +64,8 @@ turned-moderate late z m = (omega (whole, minus z), omega (whole, minus z))
 pub bound-moderate : (s : Side) {times : List ℤ} → Times times → (k : ℕ) → Moderate (boundAt s times k)
 bound-moderate s hours k = time-moderate (turned-time s _ (hours .time k))
 
-pub end-moderate : (s : Side) {times lengths : List ℤ} → Times times → Lengths lengths → (k : ℕ) → Moderate (endAt s times lengths k)
-end-moderate s {times} {lengths} hours work k =
+pub endAt-moderate : (s : Side) {times lengths : List ℤ} → Times times → Lengths lengths → (k : ℕ) → Moderate (endAt s times lengths k)
+endAt-moderate s {times} {lengths} hours work k =
     let t = turned-time s _ (hours .time k) in
     let sum = plus (boundAt s times k) (lengthAt lengths k) in
     (omega (whole, sum, t .low, work .low k), omega (whole, sum, t .high, work .high k))
@@ -132,14 +132,14 @@ Open s times set left x = (y : ℕ) → bit set y ≡ true → boundAt s times x
 pub record InPlay (s : Side) (times lengths : List ℤ) (set left : ℕ) (best : ℤ) : Type 0 where
   pub fits : left < 2 ^ jobLimit
   pub inside : (k : ℕ) → bit left k ≡ true → bit set k ≡ true
-  pub covered : (z : ℤ) (p : Sum s times lengths set z) → (z ≤ℤ best) ⊎ Open s times set left (p .first)
+  covered : (z : ℤ) (p : Sum s times lengths set z) → (z ≤ℤ best) ⊎ Open s times set left (p .first)
 
 -- the best so far: the floor, or the sum of a set
 abbrev pub Best : Side → List ℤ → List ℤ → ℕ → ℤ → ℤ → Type 0
 Best s times lengths set low z = (z ≡ low) ⊎ Sum s times lengths set z
 
 module _ {s : Side} {times lengths : List ℤ} {set : ℕ} {low : ℤ} where
-  pub better : {z x : ℤ} → Best s times lengths set low z → Best s times lengths set low x → Best s times lengths set low (greater z x)
+  better : {z x : ℤ} → Best s times lengths set low z → Best s times lengths set low x → Best s times lengths set low (greater z x)
   better {z} {x} h g = by-test (Best s times lengths set low) (ltZ z x) x z (λ _. g) (λ _. h)
 
   pub best-moderate : {z : ℤ} → Times times → Lengths lengths → Moderate low → Best s times lengths set low z → Moderate z

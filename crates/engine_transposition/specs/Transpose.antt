@@ -43,7 +43,7 @@ decides-mask shift mask =
     (λ m. ((m .short, m .first), m .second))
 
 -- blocks of ones and blocks of zeros by turns, as wide as the shift
-abbrev pub maskOf : ℕ → ℕ
+abbrev maskOf : ℕ → ℕ
 maskOf shift = (2 ^ width - 1) / (2 ^ shift + 1)
 
 pub masks : (s : ℕ) → s < 6 → Mask (2 ^ s) (maskOf (2 ^ s))

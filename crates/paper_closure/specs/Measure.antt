@@ -20,7 +20,7 @@ use Rattle.paper_board.specs.Paper.Tests.{live}
 use Rattle.paper_board.specs.BoardTests.Live.{live-yes, live-show}
 use Rattle.paper_board.specs.BoardTests.Decides.{Decides, _and_, negated, holds, live-is}
 use Rattle.paper_board.specs.BoardTests.BoundTime.{bound-time}
-use Rattle.paper_closure.specs.Closing.{steps}
+use Rattle.paper_closure.specs.Closure.{steps}
 
 -- the minutes by which a bound can still rise
 abbrev slack : Side → Row → ℕ

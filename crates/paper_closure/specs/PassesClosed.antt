@@ -16,15 +16,15 @@ use Rattle.paper_rules.specs.Order.Empty.{within-empty, empty-obeys}
 use Rattle.paper_rules.specs.Paper.Entries.{shown}
 use Rattle.paper_rules.specs.Paper.Closed.{Closed, Least}
 use Rattle.paper_rules.specs.Order.Leastness.{handed-in}
-use Rattle.paper_rules.specs.Inference.Agrees.{obeys-rules, rules-obey}
-use Rattle.paper_rules.specs.Update.Reaches.{reached-self}
+use Rattle.paper_rules.specs.Inference.ObeysRules.{obeys-rules, rules-obey}
+use Rattle.paper_rules.specs.Update.Derives.{derived-self}
 use Rattle.paper_closure.specs.Find.{find}
 use Rattle.paper_closure.specs.FindSound.{find-sound}
 use Rattle.paper_closure.specs.FindComplete.{find-complete}
-use Rattle.paper_closure.specs.Closing.{closure}
+use Rattle.paper_closure.specs.Closure.{closure}
 use Rattle.paper_closure.specs.Closes.{lengths}
-use Rattle.paper_closure.specs.Stepping.{reached-closure}
-use Rattle.paper_closure.specs.Check.{nothingLeft, passes}
+use Rattle.paper_closure.specs.DerivedClosure.{derived-closure}
+use Rattle.paper_closure.specs.Passes.{nothingLeft, passes}
 
 settled-none : (o : Option Fact) → nothingLeft o ≡ true → o ≡ none
 unfolding nothingLeft
@@ -55,7 +55,7 @@ module _ (b : Board) where
 
   -- such a board is its own closure
   pub closed-already : passes b ≡ true → closure b ≡ some b
-  closed-already e = let within = passes-within e in sym (reached-closure b b within (reached-self b within) (passes-obeys e))
+  closed-already e = let within = passes-within e in sym (derived-closure b b within (derived-self b within) (passes-obeys e))
 
   pub obeys-passes : Within b → BooksWithin (b .books) → Obeys (view b) → passes b ≡ true
   unfolding passes

@@ -15,7 +15,7 @@ use Rattle.paper_board.specs.Paper.Limits.{IsTime, IsLength, jobLimit}
 use Rattle.paper_board.specs.BoardTests.Decides.{Decides, _and_}
 use Rattle.paper_board.specs.BoardTests.LimitsDecided.{decides-between, decides-time, decides-length}
 use Rattle.paper_entries.specs.Paper.Entry.{mark, cut, addition, other, number}
-use Rattle.paper_entries.specs.Paper.Checks.{Check, isJob, jobCheck, pairChecks, timeCheck, windowCheck, checks, gate}
+use Rattle.paper_entries.specs.Paper.Checks.{Check, isJob, jobCheck, pairChecks, timeCheck, windowCheck, checks, firstRefusal}
 use Rattle.paper_entries.specs.CheckLines.{passed}
 
 -- the number of a job on a board of n jobs
@@ -60,7 +60,7 @@ is-job n z t =
     record { low = low; high = omega (whole, none-below z low) }
 
 -- the lines 5 and 6, and those after them
-window : (e d : ℤ) (cs : List Check) → gate (timeCheck e d ∷ windowCheck e d ∷ cs) ≡ none → Window e d × (gate cs ≡ none)
+window : (e d : ℤ) (cs : List Check) → firstRefusal (timeCheck e d ∷ windowCheck e d ∷ cs) ≡ none → Window e d × (firstRefusal cs ≡ none)
 window e d cs g =
     let (time, g1) = passed _ _ g in
     let (order, g2) = passed _ _ g1 in
@@ -68,13 +68,13 @@ window e d cs g =
     (record { earliest = earliest; latest = latest; order = omega whole }, g2)
 
 -- line 2, and those after it
-job : (n : ℕ) (j : ℤ) (cs : List Check) → gate (jobCheck n j ∷ cs) ≡ none → IsJob n j × (gate cs ≡ none)
+job : (n : ℕ) (j : ℤ) (cs : List Check) → firstRefusal (jobCheck n j ∷ cs) ≡ none → IsJob n j × (firstRefusal cs ≡ none)
 job n j cs g = let (known, g1) = passed _ _ g in (is-job n j (not-false _ known), g1)
 
-pub job-numbers : (n : ℕ) (j : ℤ) → gate (jobCheck n j ∷ []) ≡ none → IsJob n j
+pub job-numbers : (n : ℕ) (j : ℤ) → firstRefusal (jobCheck n j ∷ []) ≡ none → IsJob n j
 job-numbers n j g = job n j [] g .0
 
-pub pair-numbers : (n : ℕ) (a b : ℤ) → gate (pairChecks n a b) ≡ none → PairNumbers n a b
+pub pair-numbers : (n : ℕ) (a b : ℤ) → firstRefusal (pairChecks n a b) ≡ none → PairNumbers n a b
 pair-numbers n a b g =
     let (jobs, g1) = passed _ _ g in
     let (same, g2) = passed _ _ g1 in
@@ -83,19 +83,19 @@ pair-numbers n a b g =
     let second = is-job n b tb in
     record { first = first; second = second; different = λ e. refuted same (omega (whole, none-below a (first .low), none-below b (second .low))) }
 
-pub mark-numbers : (n : ℕ) (j m : ℤ) → gate (checks n (other (mark j m))) ≡ none → MarkNumbers n j m
+pub mark-numbers : (n : ℕ) (j m : ℤ) → firstRefusal (checks n (other (mark j m))) ≡ none → MarkNumbers n j m
 mark-numbers n j m g =
     let (known, g1) = job n j _ g in
     let (taken, g2) = passed _ _ g1 in
     let (low, high) = unbroken (decides-between (pos 1) (pos 2) m) taken in
     record { job = known; low = low; high = high }
 
-pub cut-numbers : (n : ℕ) (j e d : ℤ) → gate (checks n (other (cut j e d))) ≡ none → CutNumbers n j e d
+pub cut-numbers : (n : ℕ) (j e d : ℤ) → firstRefusal (checks n (other (cut j e d))) ≡ none → CutNumbers n j e d
 cut-numbers n j e d g =
     let (known, g1) = job n j _ g in
     record { job = known; window = window e d [] g1 .0 }
 
-pub addition-numbers : (n : ℕ) (l e d m : ℤ) → gate (checks n (addition l e d m)) ≡ none → AdditionNumbers n l e d m
+pub addition-numbers : (n : ℕ) (l e d m : ℤ) → firstRefusal (checks n (addition l e d m)) ≡ none → AdditionNumbers n l e d m
 addition-numbers n l e d m g =
     let (full, g1) = passed _ _ g in
     let (length, g2) = passed _ _ g1 in

@@ -16,7 +16,7 @@ use Rattle.paper_plans.specs.Paper.Lists.{among}
 use Rattle.paper_plans.specs.Paper.Tries.{none, startAfter, startIn, inTime, ready, unplaced, search}
 use Rattle.paper_plans.specs.ListLaws.{Distinct, among-rest}
 use Rattle.paper_plans.specs.Unplaced.{unplaced-is, one-placed}
-use Rattle.paper_plans.specs.OutcomeLaws.{IfFound, from-if}
+use Rattle.paper_plans.specs.EndingLaws.{IfFound, from-if}
 
 module _ (v : View) where
   pub start-first : (j : ℕ) (ps : List ℕ) → startIn v (j ∷ ps) j ≡ startAfter v ps j
@@ -38,18 +38,18 @@ module _ (v : View) where
 
 module _ (v : View) (order : List ℕ) where
   -- the try of j from the list ps places it
-  pub record Places (ps : List ℕ) (j : ℕ) : Type 0 where
+  pub record TryPlaces (ps : List ℕ) (j : ℕ) : Type 0 where
     pub member : among order j ≡ true
     pub unplaced : among ps j ≡ false
     pub ready : ready v order ps j ≡ true
     pub inTime : inTime v ps j ≡ true
 
-  abbrev pub Reached : List ℕ → Type 0
-  Reached [] = Unit {0}
-  Reached (j ∷ ps) = Places ps j × Reached ps
+  abbrev pub Reachable : List ℕ → Type 0
+  Reachable [] = Unit {0}
+  Reachable (j ∷ ps) = TryPlaces ps j × Reachable ps
 
-  pub search-reaches : Distinct order → (n : ℕ) (ps : List ℕ) → Reached ps → length (unplaced v order ps) ≡ n
-      → IfFound (λ qs. Reached qs × (length (unplaced v order qs) ≡ 0)) (search v order n ps)
+  pub search-reaches : Distinct order → (n : ℕ) (ps : List ℕ) → Reachable ps → length (unplaced v order ps) ≡ n
+      → IfFound (λ qs. Reachable qs × (length (unplaced v order qs) ≡ 0)) (search v order n ps)
   unfolding search
   search-reaches d zero ps r e = (r, e)
   search-reaches d (suc n) ps r e =

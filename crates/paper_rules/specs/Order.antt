@@ -2,5 +2,5 @@
 pub mod OrderLaws
 pub mod Empty
 pub mod Leastness
-pub mod Unique
-pub mod Tabulated
+pub mod LeastUnique
+pub mod BoardOf

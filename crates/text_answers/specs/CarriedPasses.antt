@@ -18,27 +18,27 @@ use Rattle.paper_rules.specs.Order.Empty.{within-emptyBooks}
 use Rattle.paper_board.specs.Paper.Refusals.{numberOf}
 use Rattle.paper_board.specs.Paper.View.{View, view}
 use Rattle.paper_board.specs.Paper.Tests.{live}
-use Rattle.paper_closure.specs.Check.{passes}
+use Rattle.paper_closure.specs.Passes.{passes}
 use Rattle.paper_closure.specs.PassesClosed.{empty-passes}
 use Rattle.text_forms.specs.Paper.Forms.{formOf}
 use Rattle.paper_entries.specs.Paper.Entry.{Entry, number}
 use Rattle.paper_entries.specs.Paper.EntryOf.{entryOf}
-use Rattle.paper_entries.specs.Paper.Checks.{Check, jobCheck, pairChecks, budgetCheck, gate}
+use Rattle.paper_entries.specs.Paper.Checks.{Check, jobCheck, pairChecks, budgetCheck, firstRefusal}
 use Rattle.paper_entries.specs.Paper.Enter.{enter}
 use Rattle.paper_entries.specs.Paper.Looking.{row, arcs, pair}
 use Rattle.paper_entries.specs.Paper.Replies.{Reply, ok-number, ok, no-number, replyOf, shows-row, no-row, rowReplyOf, shows-pair, no-pair, pairReplyOf}
-use Rattle.paper_entries.specs.Answered.{lines, gate-line, answered-board}
+use Rattle.paper_entries.specs.AnsweredImpossible.{lines, refusal-line, answered-board}
 use Rattle.paper_entries.specs.Later.{call-later}
-use Rattle.paper_entries.specs.Stepped.{enter-checked}
+use Rattle.paper_entries.specs.EnterOutcome.{enter-checked}
 use Rattle.paper_plans.specs.Paper.PlanReply.{plan-found, plan-none, plan-spent, no-plan, planReplyOf}
-use Rattle.paper_plans.specs.Paper.Tries.{Outcome, found, none as exhausted, tries}
+use Rattle.paper_plans.specs.Paper.Tries.{Ending, found, none as exhausted, tries}
 use Rattle.paper_plans.specs.Paper.WithinBudget.{taken}
 use Rattle.paper_plans.specs.Paper.Planner as planner
 use Rattle.paper_plans.specs.Paper.Planner.{plan}
 use Rattle.text_forms.specs.declared.Form.{Form}
 use Rattle.text_forms.specs.declared.Form.the-variants.{Entry as Enters, Row, Pair, Plan, Tally, Unknown}
 use Rattle.text_forms.specs.Paper.Lines.{Line, ended, unended, linesOf}
-use Rattle.text_answers.specs.Paper.Text.{LineReply, to-entry, to-row, to-pair, to-plan, to-tally, carriedOut, answered, serve, loadLimit, answer}
+use Rattle.text_answers.specs.Paper.Text.{LineReply, to-entry, to-row, to-pair, to-plan, to-tally, carriedOut, answered, serve, loadLimit, serveText}
 
 pub carried-passes : (b : Board) (f : Form) → passes b ≡ true → passes (carriedOut b f .board) ≡ true
 unfolding carriedOut
@@ -75,9 +75,9 @@ positive r = ltb 0 (numberOf r)
 some-number : (n : ℕ) → 0 < n → _≡_ {A = Option ℕ} (some n) (some 0) → ⊥
 some-number n h e = let zero : n ≡ 0 = cc in omega arith
 
-gate-positive : (cs : List Check) (r : Refusal) → lines positive cs ≡ true → gate cs ≡ some r → 0 < numberOf r
+refusal-positive : (cs : List Check) (r : Refusal) → lines positive cs ≡ true → firstRefusal cs ≡ some r → 0 < numberOf r
 unfolding positive
-gate-positive cs r l g = ltb-true 0 (numberOf r) (gate-line positive cs r l g)
+refusal-positive cs r l g = ltb-true 0 (numberOf r) (refusal-line positive cs r l g)
 
 module _ (b : Board) (p : passes b ≡ true) where
   entry-not-zero : (e : Entry) → NotZero (to-entry (replyOf (enter b e .answer)))
@@ -91,38 +91,38 @@ module _ (b : Board) (p : passes b ≡ true) where
 
   row-not-zero : (j : ℤ) → NotZero (to-row j (rowReplyOf (row b j)))
   unfolding row refusalIn lines positive
-  row-not-zero j = go (gate (jobCheck (b .jobs) j ∷ [])) refl
+  row-not-zero j = go (firstRefusal (jobCheck (b .jobs) j ∷ [])) refl
     where
-      go : (o : Option Refusal) → gate (jobCheck (b .jobs) j ∷ []) ≡ o → NotZero (to-row j (rowReplyOf (row b j)))
+      go : (o : Option Refusal) → firstRefusal (jobCheck (b .jobs) j ∷ []) ≡ o → NotZero (to-row j (rowReplyOf (row b j)))
       go none g = rw (p, g, row) λ q. clash (cc)
-      go (some r) g = rw (p, g, row) (some-number (numberOf r) (gate-positive _ r refl g))
+      go (some r) g = rw (p, g, row) (some-number (numberOf r) (refusal-positive _ r refl g))
 
   pair-not-zero : (x y : ℤ) → NotZero (to-pair (pairReplyOf (pair b x y)))
   unfolding pair refusalIn lines positive
-  pair-not-zero x y = go (gate (pairChecks (b .jobs) x y)) refl (live (view b) (number x) && live (view b) (number y)) refl
+  pair-not-zero x y = go (firstRefusal (pairChecks (b .jobs) x y)) refl (live (view b) (number x) && live (view b) (number y)) refl
     where
-      go : (o : Option Refusal) → gate (pairChecks (b .jobs) x y) ≡ o
+      go : (o : Option Refusal) → firstRefusal (pairChecks (b .jobs) x y) ≡ o
           → (t : Bool) → live (view b) (number x) && live (view b) (number y) ≡ t → NotZero (to-pair (pairReplyOf (pair b x y)))
       go none g true l = rw (p, g, l, pair) λ q. clash (cc)
       go none g false l = rw (p, g, l, pair) λ q. clash (cc)
-      go (some r) g t l = rw (p, g, pair) (some-number (numberOf r) (gate-positive _ r refl g))
+      go (some r) g t l = rw (p, g, pair) (some-number (numberOf r) (refusal-positive _ r refl g))
 
   plan-not-zero : (n : ℤ) → NotZero (to-plan (planReplyOf (plan b n)))
   unfolding plan refusalIn lines positive
-  plan-not-zero n = go (gate (budgetCheck n ∷ [])) refl
+  plan-not-zero n = go (firstRefusal (budgetCheck n ∷ [])) refl
     where
-      o : Outcome
+      o : Ending
       o = tries (view b) (planner.validJobs (view b))
 
-      planned : (v : View) (k : ℕ) (o : Outcome) (t : Bool) → leb (taken o) k ≡ t → NotZero (to-plan (planReplyOf (planner.answer v k o)))
+      planned : (v : View) (k : ℕ) (o : Ending) (t : Bool) → leb (taken o) k ≡ t → NotZero (to-plan (planReplyOf (planner.plannedWithin v k o)))
       planned v k (found t ps) true l = rw l λ q. clash (cc)
       planned v k (found t ps) false l = rw l λ q. clash (cc)
       planned v k (exhausted t) true l = rw l λ q. clash (cc)
       planned v k (exhausted t) false l = rw l λ q. clash (cc)
 
-      go : (x : Option Refusal) → gate (budgetCheck n ∷ []) ≡ x → NotZero (to-plan (planReplyOf (plan b n)))
+      go : (x : Option Refusal) → firstRefusal (budgetCheck n ∷ []) ≡ x → NotZero (to-plan (planReplyOf (plan b n)))
       go none g = rw (p, g, plan) (planned (view b) (number n) o (leb (taken o) (number n)) refl)
-      go (some r) g = rw (p, g, plan) (some-number (numberOf r) (gate-positive _ r refl g))
+      go (some r) g = rw (p, g, plan) (some-number (numberOf r) (refusal-positive _ r refl g))
 
   carried-not-zero : (f : Form) → NotZero (carriedOut b f .reply)
   unfolding carriedOut refusalIn
@@ -151,10 +151,10 @@ serve-not-zero b p (l ∷ ls) =
     (one, serve-not-zero (answered b l .board) next ls)
 
 -- no line of any text is answered 0
-pub never-zero : (t : List ℕ) → Every NotZero (answer t .replies)
-unfolding answer refusalIn
-never-zero t = go (leb (length t) loadLimit) refl
+pub text-never-zero : (t : List ℕ) → Every NotZero (serveText t .replies)
+unfolding serveText refusalIn
+text-never-zero t = go (leb (length t) loadLimit) refl
   where
-    go : (x : Bool) → leb (length t) loadLimit ≡ x → Every NotZero (answer t .replies)
-    go true e = rw (e, answer) (serve-not-zero (emptyBoard emptyBooks) (empty-passes emptyBooks within-emptyBooks) (linesOf t))
-    go false e = rw (e, answer) (λ q. clash (cc), tt)
+    go : (x : Bool) → leb (length t) loadLimit ≡ x → Every NotZero (serveText t .replies)
+    go true e = rw (e, serveText) (serve-not-zero (emptyBoard emptyBooks) (empty-passes emptyBooks within-emptyBooks) (linesOf t))
+    go false e = rw (e, serveText) (λ q. clash (cc), tt)

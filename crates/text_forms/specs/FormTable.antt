@@ -12,7 +12,7 @@ use Rattle.text_scans.specs.Scan.{places, placed}
 use Rattle.text_forms.specs.declared.Form.{Form}
 use Rattle.text_forms.specs.declared.Form.the-variants.{Unknown}
 use Rattle.text_forms.specs.declared.table.Match.{Match}
-use Rattle.text_forms.specs.Paper.Forms.{Shape, written, shapes}
+use Rattle.text_forms.specs.Paper.Forms.{FormShape, written, shapes}
 use Rattle.text_forms.specs.Paper.Lines.{Line, ended, unended}
 
 -- can a text be scanned by each line of a table? It has its line feed, and no more numbers than there are places.
@@ -22,7 +22,7 @@ scans (ended f ∷ ls) = leb (marks numberMark f) places && scans ls
 scans (unended f ∷ ls) = false
 
 -- what is found from the second line on
-abbrev pub later : Match → Match
+abbrev later : Match → Match
 later r = record { index = suc (r .index); numbers = r .numbers }
 
 unfoldable pub firstIn : List Line → List ℕ → Match
@@ -31,10 +31,10 @@ firstIn (ended f ∷ ls) t = elim (scan f t) [ none ↦ later (firstIn ls t) | s
 firstIn (unended f ∷ ls) t = later (firstIn ls t)
 
 -- what is no form, as a last shape
-abbrev pub nothing : Shape
+abbrev pub nothing : FormShape
 nothing = written "" (λ n. Unknown)
 
-abbrev pub shapeAt : ℕ → Shape
+abbrev pub shapeAt : ℕ → FormShape
 shapeAt k = getD shapes k nothing
 
 -- what the k-th shape says with numbers as the code holds them

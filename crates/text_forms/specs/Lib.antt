@@ -7,4 +7,4 @@ pub mod LineLaws
 pub mod FormTable
 pub mod FormTableLaws
 pub mod Shapes
-pub mod Read
+pub mod FormRead

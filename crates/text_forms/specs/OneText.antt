@@ -14,7 +14,7 @@ use Rattle.text_formats.specs.Format.{numberMark, filled, scan, marks}
 use Rattle.paper_entries.specs.declared.Entry.the-variants.{Addition, Arc, Mark, Cut}
 use Rattle.text_forms.specs.declared.Form.{Form}
 use Rattle.text_forms.specs.declared.Form.the-variants.{Entry, Row, Pair, Plan, Tally, Unknown}
-use Rattle.text_forms.specs.Paper.Forms.{Shape, shapes, said, firstOf, formOf}
+use Rattle.text_forms.specs.Paper.Forms.{FormShape, shapes, said, firstOf, formOf}
 use Rattle.text_forms.specs.Shapes.{distinct, distinct-parts, filled-is-said}
 use Rattle.text_forms.specs.FormTable.{shapeAt}
 
@@ -38,10 +38,10 @@ fillingOf (Plan n) = filling 6 (n ∷ [])
 fillingOf Tally = filling 7 []
 fillingOf Unknown = filling (length shapes) []
 
-abbrev pub shapeOf : Form → Shape
+abbrev shapeOf : Form → FormShape
 shapeOf f = shapeAt (fillingOf f .index)
 
-abbrev pub numbersOf : Form → List ℤ
+abbrev numbersOf : Form → List ℤ
 numbersOf f = fillingOf f .numbers
 
 -- how a form is written
@@ -58,11 +58,11 @@ all-from k zero zs h = sym (drop-of-length-le zs {i = k} (omega arith))
 all-from k (suc n) zs h = ap (λ l. getD zs k (pos 0) ∷ l) (all-from (suc k) n zs (omega arith)) ∙ sym (drop-cons zs k (pos 0) (omega arith))
 
 -- what a shape says tells the shape, and its numbers in turn
-record Told (s : Shape) : Type 0 where
+record Told (s : FormShape) : Type 0 where
   shape : (zs : List ℤ) → shapeOf (said s zs) ≡ s
   numbers : (zs : List ℤ) → numbersOf (said s zs) ≡ numbersFrom 0 (marks numberMark (s .format)) zs
 
-abbrev AllTold : List Shape → Type 0
+abbrev AllTold : List FormShape → Type 0
 AllTold [] = Unit
 AllTold (s ∷ ss) = Told s × AllTold ss
 
@@ -72,7 +72,7 @@ shapes-told = search depth 30
 abbrev IsText : List ℕ → Form → Type 0
 IsText line f = (line ≡ formText f) × AllShort (numbersOf f)
 
-first-is-written : (ss : List Shape) → AllTold ss → distinct ss ≡ true → (line : List ℕ) (f : Form) → (f ≡ Unknown → ⊥) → firstOf ss line ≡ f → IsText line f
+first-is-written : (ss : List FormShape) → AllTold ss → distinct ss ≡ true → (line : List ℕ) (f : Form) → (f ≡ Unknown → ⊥) → firstOf ss line ≡ f → IsText line f
 unfolding firstOf
 first-is-written [] told h line f known e = absurd (known (sym e))
 first-is-written (s ∷ ss) told h line f known e =

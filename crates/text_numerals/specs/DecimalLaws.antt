@@ -28,7 +28,7 @@ module _ (P : ℕ → List ℕ → Type 0) (units : (n : ℕ) → n < 10 → P n
       go tenth true e = let small = ltb-true n 10 e in rw (natural-small n small) (units n small)
       go tenth false e = let large = ltb-false n 10 e in rw (natural-more n large) (more n (natural (n / 10)) large (tenth (omega arith)))
 
-  pub natural-ind : (n : ℕ) → P n (natural n)
+  natural-ind : (n : ℕ) → P n (natural n)
   natural-ind n = below (suc n) n (omega arith)
 
 digit-written : (d : ℕ) → d < 10 → isDigit (code "0" + d) ≡ true

@@ -7,5 +7,5 @@ pub mod DigitsRead
 pub mod Value
 pub mod NaturalRead
 pub mod DecimalLaws
-pub mod First
+pub mod NumberFirst
 pub mod Negative

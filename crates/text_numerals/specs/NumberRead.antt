@@ -9,7 +9,7 @@ use mathlib.Core.Path.{_≡_, refl, sym, ap, _∙_}
 use native.Mathlib.Omega.{arith}
 use borrow.Author.Tests.{eqb-true, ne-eqb}
 use Rattle.text_decimals.specs.Bytes.{minus}
-use Rattle.text_decimals.specs.Decimal.{natural, number}
+use Rattle.text_decimals.specs.Decimal.{natural, decimal}
 use Rattle.text_numerals.specs.DecimalLaws.{natural-digits, natural-value, natural-leads, written-is-natural, natural-is-written}
 use Rattle.text_decimals.specs.Bytes.{isDigit}
 use Rattle.text_numerals.specs.Prefix.{prefix-within}
@@ -33,18 +33,18 @@ unsigned [] h = absurd (omega arith)
 unsigned (c ∷ t) h = let d = digit-at (c ∷ t) 0 h in rw (ne-eqb c minus (λ q. omega (arith, d .low, q)))
 
 -- a number that is written is read back, where no digit comes after it
-pub number-read : (z : ℤ) (t : List ℕ) → Short z → startsWithDigit t ≡ false → numberAt (number z ++ t) ≡ Number (length (number z)) z
+pub number-read : (z : ℤ) (t : List ℕ) → Short z → startsWithDigit t ≡ false → numberAt (decimal z ++ t) ≡ Number (length (decimal z)) z
 unfolding numberAt
 number-read (pos n) t h e = unsigned (natural n ++ t) (rw (natural-then n t e) (natural-leads n .0)) ∙ natural-read n t h e
 number-read (negsuc n) t h e = rw (natural-read (suc n) t h e, eqb·suc-zero n)
 
 -- k bytes of the text are what is written of a short number
-pub record Reads (t : List ℕ) (k : ℕ) (z : ℤ) : Type 0 where
+pub record ReadsNumber (t : List ℕ) (k : ℕ) (z : ℤ) : Type 0 where
   pub within : k ≤ length t
-  pub written : take k t ≡ number z
+  pub written : take k t ≡ decimal z
   pub short : Short z
 
-from-natural : (t : List ℕ) (k : ℕ) (z : ℤ) → NaturalRead t k z → Reads t k z
+from-natural : (t : List ℕ) (k : ℕ) (z : ℤ) → NaturalRead t k z → ReadsNumber t k z
 from-natural t k z r =
     record {
       within = omega (arith, prefix-within isDigit t, r .all);
@@ -52,7 +52,7 @@ from-natural t k z r =
       short = rw (r .same) (natural-short t (r .is));
     }
 
-from-negative : (t : List ℕ) (k : ℕ) (z : ℤ) (found : Numeral) → naturalAt t ≡ found → negative found ≡ Number k z → Reads (minus ∷ t) k z
+from-negative : (t : List ℕ) (k : ℕ) (z : ℤ) (found : Numeral) → naturalAt t ≡ found → negative found ≡ Number k z → ReadsNumber (minus ∷ t) k z
 from-negative t k z Nothing e q = absurd (nothing-is-no-number k z q)
 from-negative t k z (Number j (pos zero)) e q = absurd (nothing-is-no-number k z q)
 from-negative t k z (Number j (pos (suc n))) e q =
@@ -67,11 +67,11 @@ from-negative t k z (Number j (negsuc n)) e q =
     absurd (omega arith)
 
 -- what is read as a number is what is written of it
-pub read-number : (t : List ℕ) (k : ℕ) (z : ℤ) → numberAt t ≡ Number k z → Reads t k z
+pub read-number : (t : List ℕ) (k : ℕ) (z : ℤ) → numberAt t ≡ Number k z → ReadsNumber t k z
 unfolding numberAt
 read-number [] k z e = absurd (nothing-is-no-number k z e)
 read-number (c ∷ t) k z e = go (eqb c minus) refl e
   where
-    go : (b : Bool) → eqb c minus ≡ b → cond b (negative (naturalAt t)) (naturalAt (c ∷ t)) ≡ Number k z → Reads (c ∷ t) k z
+    go : (b : Bool) → eqb c minus ≡ b → cond b (negative (naturalAt t)) (naturalAt (c ∷ t)) ≡ Number k z → ReadsNumber (c ∷ t) k z
     go true is e = rw (eqb-true c minus is) (from-negative t k z (naturalAt t) refl e)
     go false is e = from-natural (c ∷ t) k z (natural-found (c ∷ t) k z e)

@@ -14,16 +14,16 @@ use Rattle.text_decimals.specs.Written.{Written}
 use Rattle.paper_board.specs.declared.Board.{Board}
 use Rattle.paper_board.specs.declared.Refusal.the-variants as Refused
 use Rattle.paper_board.specs.Paper.Refusals.{numberOf}
-use Rattle.paper_closure.specs.Check.{passes}
+use Rattle.paper_closure.specs.Passes.{passes}
 use Rattle.text_forms.specs.Paper.Forms.{formOf}
 use Rattle.text_replies.specs.Paper.ReplyTexts.{refusalText}
-use Rattle.text_replies.specs.Room.{longest}
+use Rattle.text_replies.specs.Room.{answerRoom}
 use Rattle.text_forms.specs.Paper.Lines.{linesOf}
 use Rattle.text_answers.specs.Paper.Text.{Served, carriedOut, serve}
-use Rattle.text_answers.specs.Carried.{Gives}
+use Rattle.text_answers.specs.Gives.{Gives}
 use Rattle.text_answers.specs.CarriedPasses.{carried-passes}
 use Rattle.text_forms.specs.LineLaws.{lineLength}
-use Rattle.text_pieces.specs.Serving.{Continues, continues-start, continues-then, continues-line, continues-last, Answers}
+use Rattle.text_pieces.specs.Continues.{Continues, continues-start, continues-then, continues-line, continues-last, Answers}
 
 -- the bytes before `at` are written, and `left` is what remains of the text
 pub record Going (s : Served) (text out : List ℕ) (b : Board) (left : List ℕ) (at : ℕ) : Type 0 where
@@ -55,9 +55,9 @@ module _ (s : Served) (text out : List ℕ) (b : Board) (left : List ℕ) (at : 
   all-read = drop-of-length-le text (le-refl (length text))
 
   -- a line carried out
-  pub going-line : (out′ : List ℕ) (b′ : Board) (at′ : ℕ) → at + longest ≤ length out → length out′ ≡ length out
+  pub going-line : (out′ : List ℕ) (b′ : Board) (at′ : ℕ) → at + answerRoom ≤ length out → length out′ ≡ length out
       → lineLength left < length left
-      → Gives out at out′ at′ longest b′ (carriedOut b (formOf (take (lineLength left) left)))
+      → Gives out at out′ at′ answerRoom b′ (carriedOut b (formOf (take (lineLength left) left)))
       → Going s text out′ b′ (rest left (lineLength left + 1)) at′
   going-line out′ b′ at′ room same more (w, is) =
       let k = lineLength left + 1 in
@@ -75,7 +75,7 @@ module _ (s : Served) (text out : List ℕ) (b : Board) (left : List ℕ) (at : 
       }
 
   -- no room for a further answer
-  pub full : length out - at < longest → longest ≤ length out → Answers s text out (record { board = b; read = length text - length left; written = at })
+  pub full : length out - at < answerRoom → answerRoom ≤ length out → Answers s text out (record { board = b; read = length text - length left; written = at })
   full low room =
       record {
         continues = subst (Continues s (take at out) b) (h .suffix) (h .continues);
@@ -101,9 +101,9 @@ module _ (s : Served) (text out : List ℕ) (b : Board) (left : List ℕ) (at : 
       }
 
   -- the last line has no line feed
-  pub last : (out′ : List ℕ) (at′ : ℕ) → at + longest ≤ length out → length out′ ≡ length out
+  pub last : (out′ : List ℕ) (at′ : ℕ) → at + answerRoom ≤ length out → length out′ ≡ length out
       → 0 < length left → lineLength left ≡ length left
-      → Written out at out′ at′ (refusalText (numberOf Refused.Form)) longest
+      → Written out at out′ at′ (refusalText (numberOf Refused.Form)) answerRoom
       → Answers s text out′ (record { board = b; read = length text; written = at′ })
   last out′ at′ room same some all w =
       record {

@@ -10,7 +10,7 @@ use Rattle.text_replies.specs.Paper.ReplyTexts.{placementText, placementsText}
 
 module _ (p : Placing) where
   -- the placement of one job
-  abbrev pub placement : ℕ → List ℕ
+  abbrev placement : ℕ → List ℕ
   placement j = placementText (p .placed j) j (p .start j)
 
   from-next : (i n : ℕ) → placementsText p (range i (suc n)) ≡ placementsText p (range i n) ++ placement (i + n)

@@ -19,7 +19,7 @@ use Rattle.text_scans.specs.Scan.{places, placed, scanned, startsWith, s
 use Rattle.text_scans.specs.Steps.{scan-number, scan-no-number, scan-byte}
 
 -- numbers before those of a scan
-abbrev pub before : List ℤ → Option (List ℤ) → Option (List ℤ)
+abbrev before : List ℤ → Option (List ℤ) → Option (List ℤ)
 before front none = none
 before front (some zs) = some (front ++ zs)
 
@@ -31,7 +31,7 @@ before-first : (front : List ℤ) (z : ℤ) (o : Option (List ℤ)) → before f
 before-first front z none = refl
 before-first front z (some zs) = ap some (sym (append-assoc front (z ∷ []) zs))
 
-pub record State (format text f t : List ℕ) (zs : List ℤ) (k : ℕ) : Type 0 where
+pub record ScanState (format text f t : List ℕ) (zs : List ℤ) (k : ℕ) : Type 0 where
   pub same : scan format text ≡ before (take k zs) (scan f t)
   pub full : length zs ≡ places
   pub room : k + marks numberMark f ≤ places
@@ -46,10 +46,10 @@ none-placed zero i = refl
 none-placed (suc n) zero = refl
 none-placed (suc n) (suc i) = none-placed n i
 
-pub at-start : (format text : List ℕ) → marks numberMark format ≤ places → State format text format text (placed places []) 0
+pub at-start : (format text : List ℕ) → marks numberMark format ≤ places → ScanState format text format text (placed places []) 0
 at-start format text h = record { same = before-none (scan format text); full = refl; room = omega arith; zeros = λ i l. none-placed places i }
 
-module _ (format text f t : List ℕ) (zs : List ℤ) (k : ℕ) (s : State format text f t zs k) (more : 0 < length f) where
+module _ (format text f t : List ℕ) (zs : List ℤ) (k : ℕ) (s : ScanState format text f t zs k) (more : 0 < length f) where
   mark-counted : getD f 0 0 ≡ numberMark → marks numberMark f ≡ 1 + marks numberMark (drop 1 f)
   mark-counted m = rw (eq-eqb (getD f 0 0) numberMark m) at (marks-first f more)
 
@@ -57,7 +57,7 @@ module _ (format text f t : List ℕ) (zs : List ℤ) (k : ℕ) (s : State forma
   place-left m = omega (arith, s .room, mark-counted m)
 
   pub number-taken : getD f 0 0 ≡ numberMark → (n : ℕ) (z : ℤ) → numberAt t ≡ Number n z
-      → State format text (drop 1 f) (drop n t) (set zs k z) (k + 1)
+      → ScanState format text (drop 1 f) (drop n t) (set zs k z) (k + 1)
   number-taken m n z e =
       record {
         same = rw (s .same, scan-number f t n z more m e, add-one k, take-suc-set zs k z (omega (arith, s .full, place-left m))) (before-first (take k zs) z (scan (drop 1 f) (drop n t)));
@@ -69,7 +69,7 @@ module _ (format text f t : List ℕ) (zs : List ℤ) (k : ℕ) (s : State forma
   pub number-missing : getD f 0 0 ≡ numberMark → numberAt t ≡ Nothing → scanned none ≡ scanned (scan format text)
   number-missing m e = rw (s .same, scan-no-number f t more m e)
 
-  pub byte-taken : (getD f 0 0 ≡ numberMark → ⊥) → startsWith (getD f 0 0) t ≡ true → State format text (drop 1 f) (drop 1 t) zs k
+  pub byte-taken : (getD f 0 0 ≡ numberMark → ⊥) → startsWith (getD f 0 0) t ≡ true → ScanState format text (drop 1 f) (drop 1 t) zs k
   byte-taken m e =
       let counted = rw (ne-eqb (getD f 0 0) numberMark m) at (marks-first f more) in
       record { same = rw (s .same, scan-byte f t more m, e); full = s .full; room = omega (arith, s .room, counted); zeros = s .zeros }
@@ -88,13 +88,13 @@ all-placed (suc n) zero (z ∷ zs) h zeros =
 all-placed (suc n) (suc k) (z ∷ zs) h zeros =
     ap (λ l. z ∷ l) (all-placed n k zs (omega arith) λ i l. zeros (suc i) (omega arith))
 
-pub at-end : (format text f t : List ℕ) (zs : List ℤ) (k : ℕ) → State format text f t zs k → length f ≡ 0 → scannedWhole t zs ≡ scanned (scan format text)
+pub at-end : (format text f t : List ℕ) (zs : List ℤ) (k : ℕ) → ScanState format text f t zs k → length f ≡ 0 → scannedWhole t zs ≡ scanned (scan format text)
 unfolding scan
 at-end format text (c ∷ f) t zs k s e = absurd (omega arith)
 at-end format text [] (x ∷ t) zs k s e = rw (s .same, eqb·suc-zero (length t))
 at-end format text [] [] zs k s e = rw (s .same, append-nil (take k zs), all-placed places k zs (s .full) (s .zeros))
 
 -- the rests of the format and of the text, as the code names them
-pub as-parts : (format text f t : List ℕ) (zs : List ℤ) (k a b : ℕ) → State format text (drop a f) (drop b t) zs k
-    → State format text (take (length f - a) (drop a f)) (take (length t - b) (drop b t)) zs k
+pub as-parts : (format text f t : List ℕ) (zs : List ℤ) (k a b : ℕ) → ScanState format text (drop a f) (drop b t) zs k
+    → ScanState format text (take (length f - a) (drop a f)) (take (length t - b) (drop b t)) zs k
 as-parts format text f t zs k a b s = rw (rest-drop f a, rest-drop t b) s

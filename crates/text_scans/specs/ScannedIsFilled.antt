@@ -11,7 +11,7 @@ use mathlib.Core.Path.{_≡_, refl, sym, ap, _∙_}
 use native.Mathlib.Omega.{arith}
 use borrow.Author.Tests.{eqb-true, eqb-false, eq-eqb, not-true}
 use Rattle.text_decimals.specs.Bytes.{isDigit}
-use Rattle.text_decimals.specs.Decimal.{number}
+use Rattle.text_decimals.specs.Decimal.{decimal}
 use Rattle.text_numerals.specs.DigitsRead.{startsWithDigit}
 use Rattle.text_numerals.specs.NumberRead.{number-read, read-number}
 use Rattle.text_numerals.specs.Numerals.{numberAt, Short}
@@ -22,7 +22,7 @@ use Rattle.text_scans.specs.Scan.{startsWith}
 use Rattle.text_scans.specs.Steps.{scan-number, scan-no-number, scan-byte, filled-number, filled-byte}
 
 -- may a number stand before this part of a format? Not before a digit or another number.
-abbrev pub endsNumber : List ℕ → Bool
+abbrev endsNumber : List ℕ → Bool
 endsNumber [] = true
 endsNumber (c ∷ f) = not (isDigit c) && not (eqb c numberMark)
 
@@ -66,7 +66,7 @@ module _ (c : ℕ) (f : List ℕ) (s : Scannable c f) (g : List ℕ) where
       let t = filled f [] zs in
       let read = number-read z t short (ends-digits f zs (s .rest) (rw m at (s .ends))) in
       rw (filled-number c f (z ∷ zs) (s .signed) m)
-      (scan-number (c ∷ g) (number z ++ t) (length (number z)) z (omega arith) (eqb-true c numberMark m) read ∙ rw (drop-append-seam (number z) t))
+      (scan-number (c ∷ g) (decimal z ++ t) (length (decimal z)) z (omega arith) (eqb-true c numberMark m) read ∙ rw (drop-append-seam (decimal z) t))
 
   pub byte-scanned : eqb c numberMark ≡ false → (d : ℕ) → eqb d numberMark ≡ false → (zs : List ℤ)
       → scan (d ∷ g) (filled (c ∷ f) [] zs) ≡ cond (eqb c d) (scan g (filled f [] zs)) none
@@ -99,7 +99,7 @@ mark-filled c f t k z zs s m e rest (some ys) q found =
     let same : zs ≡ z ∷ ys = cc in
     rw same
     (record {
-      text = sym (take-append-drop k t) ∙ rw (read .written, filled-number c f (z ∷ ys) (s .signed) m) (ap (λ l. number z ++ l) (r .text));
+      text = sym (take-append-drop k t) ∙ rw (read .written, filled-number c f (z ∷ ys) (s .signed) m) (ap (λ l. decimal z ++ l) (r .text));
       short = (read .short, r .short);
       each = rw m (omega (arith, r .each));
     })

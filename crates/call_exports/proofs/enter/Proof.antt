@@ -22,4 +22,4 @@ enter-spec 𝓤 H 𝓜 𝓖 𝓡 =
     law (value entry ∷ value truth ∷ []) (λ z. entryOf (z .0)) as-flagged 𝓤 H 𝓜 𝓖 𝓡
     (λ κs a. enter.clauses 𝓤 H (𝓖 .A) (𝓜 .mem) (𝓡 .run) κs a .ensures) (λ κs a e p. holds 𝓤 (ap replied p))
     code.env name by-value.name by-value.routine (code.unfolded 𝓤 H 𝓜 𝓡) code.calls-call-exports-by-value·enter
-    code.calls-call-reply-numbers·entry-reply (met 𝓤 H 𝓜 𝓖 𝓡)
+    code.calls-call-reply-numbers·reply-numbers (met 𝓤 H 𝓜 𝓖 𝓡)

@@ -13,7 +13,7 @@ use mir.ValLaws.{toZ-ofZ}
 use Rattle.paper_board.specs.Paper.Values.{sideOf, turned}
 use Rattle.paper_board.specs.BoardTests.Ranges.{time-moderate}
 use Rattle.engine_sums.specs.Sums.{Pushes}
-use Rattle.engine_sums.specs.SumLaws.{time-fits, length-fits, length-moderate}
+use Rattle.engine_sums.specs.SumLaws.{time-fits, length-fits, lengthAt-moderate}
 use Rattle.engine_bound_beyond.specs.BoundBeyond.{pushing}
 use Rattle.engine_precedence.specs.ModerateTime.{found-below}
 use Rattle.engine_leading.specs.Leading.{LeadsTo}
@@ -60,7 +60,7 @@ holds-requires c κs =
     let (_, hours, other, work, _) = start else .pre in
     let k = start else .args .job in
     simp (toZ-ofZ, time-fits-32 (told else), time-fits (other .time k), length-fits work k)
-    (pushed-moderate _ _ _ _ hours work (above else), time-moderate (other .time k), length-moderate work k)
+    (pushed-moderate _ _ _ _ hours work (above else), time-moderate (other .time k), lengthAt-moderate work k)
 
 returns-2 : tie.Need-returns-2
 returns-2 c =

@@ -4,12 +4,12 @@ use mathlib.Core.Path.{_≡_, ap}
 use Prim.Native.Nat.{ℕ, _<_, _≤_, _^_}
 use native.Mathlib.Decide.{ℕ-discrete, decLt}
 use native.Mathlib.Omega.{arith}
-use lib.IntN.{ℤ, pos, _+ℤ_}
+use lib.IntN.{ℤ, pos}
 use lib.ListN.{getD}
 use lib.Signed.{ltZ, _≤ℤ_}
 use Rattle.ground_sets.specs.BitLaws.{bits-bound}
 use Rattle.ground_arithmetic.specs.Bools.{is-false, by-test}
-use Rattle.ground_arithmetic.specs.Linear.{whole, plus}
+use Rattle.ground_arithmetic.specs.Linear.{whole}
 use Rattle.ground_arithmetic.specs.Time.{Moderate, greater}
 use Rattle.paper_board.specs.declared.Board.{Board}
 use Rattle.paper_board.specs.Paper.View.{Row, rowOf}
@@ -76,8 +76,3 @@ time-moderate t = (omega (whole, t .low), omega (whole, t .high))
 
 pub length-moderate : {r : Row} → Ranges r → Moderate (r .length)
 length-moderate h = (omega (whole, h .low), omega (whole, h .high))
-
-pub end-moderate : {r : Row} → Ranges r → Moderate (r .earliest +ℤ r .length)
-end-moderate {r} h =
-    let sum = plus (r .earliest) (r .length) in
-    (omega (whole, sum, h .earliest .low, h .low), omega (whole, sum, h .earliest .high, h .high))

@@ -1,5 +1,5 @@
--- The test of "a board that breaks a limit above, keeps something twice that doesn't agree": the limits of a board as the
--- gate tests them. Pairs are tested among the jobs alone, so that a small board is tested quickly.
+-- The test of "a board that breaks a limit above, keeps something twice that doesn't agree": the limits of a board as
+-- check 0 tests them. Pairs are tested among the jobs alone, so that a small board is tested quickly.
 use mathlib.Core.Bool.{Bool, true, not, _&&_, Bool·beq}
 use mathlib.Core.List.{List}
 use Prim.Native.Nat.{ℕ, zero, suc, _^_}

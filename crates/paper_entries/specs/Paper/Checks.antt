@@ -65,6 +65,6 @@ abbrev pub budgetCheck : ℤ → Check
 budgetCheck z = line Refused.Budget (not (between (pos 0) budgetLimit z))
 
 -- the first refusal that the call meets
-unfoldable pub gate : List Check → Option Refusal
-gate [] = none
-gate (c ∷ cs) = elim (c .met) [ true ↦ some (c .refusal) | false ↦ gate cs ]
+unfoldable pub firstRefusal : List Check → Option Refusal
+firstRefusal [] = none
+firstRefusal (c ∷ cs) = elim (c .met) [ true ↦ some (c .refusal) | false ↦ firstRefusal cs ]

@@ -8,14 +8,14 @@ use Rattle.paper_board.specs.Paper.View.{View}
 use Rattle.paper_entries.specs.Paper.Checks.{budgetLimit}
 use Rattle.paper_plans.specs.Paper.PlanReply.{PlanReply, plan-found, plan-none, plan-spent}
 use Rattle.paper_plans.specs.Paper.Planner.{validJobs}
-use Rattle.paper_plans.specs.Paper.Tries.{Outcome, found, none, planOf, tries}
+use Rattle.paper_plans.specs.Paper.Tries.{Ending, found, none, planOf, tries}
 
 -- "a budget, 0 to 1000000"
 abbrev pub IsBudget : ℤ → Type 0
 IsBudget z = (pos 0 ≤ℤ z) × (z ≤ℤ budgetLimit)
 
--- the number of tries that an outcome took
-abbrev pub taken : Outcome → ℕ
+-- the number of tries that an ending took
+abbrev pub taken : Ending → ℕ
 taken (found t ps) = t
 taken (none t) = t
 
@@ -25,6 +25,6 @@ triesTaken v = taken (tries v (validJobs v))
 
 -- "If this takes T tries and T is at most the budget, the answer is found or none with T; otherwise it is spent with the
 -- budget."
-abbrev pub ending : View → ℕ → Outcome → PlanReply
-ending v budget (found t ps) = cond (leb t budget) (plan-found t (planOf v ps)) (plan-spent budget)
-ending v budget (none t) = cond (leb t budget) (plan-none t) (plan-spent budget)
+abbrev pub withinBudget : View → ℕ → Ending → PlanReply
+withinBudget v budget (found t ps) = cond (leb t budget) (plan-found t (planOf v ps)) (plan-spent budget)
+withinBudget v budget (none t) = cond (leb t budget) (plan-none t) (plan-spent budget)

@@ -11,7 +11,7 @@ use Rattle.paper_board.specs.Paper.View.{View, Live, view}
 use Rattle.paper_board.specs.Paper.Facts.{Fact, Holds}
 use Rattle.paper_board.specs.Paper.Limits.{Within, BooksWithin, emptyBoard}
 use Rattle.paper_rules.specs.Paper.Entries.{Drawn, drawn, _⊑_}
-use Rattle.paper_rules.specs.Order.Unique.{alike-boards, equal-boards}
+use Rattle.paper_rules.specs.Order.LeastUnique.{alike-boards, equal-boards}
 use Rattle.paper_rules.specs.Inference.Infers.{r1, r2, r3, r45, r6, Obeys}
 use Rattle.paper_rules.specs.Update.Extension.{above-self}
 use Rattle.paper_board.specs.Paper.Tests.{implies}

@@ -47,7 +47,7 @@ module _ (v w : View) (up : v ⊑ w) where
   pub valid-up : (j : ℕ) → Valid v j → Valid w j
   valid-up j h = (below-up j (h .0), up .rows j (h .0) .valid (h .1))
 
-  pub invalid-up : (j : ℕ) → Invalid v j → Invalid w j
+  invalid-up : (j : ℕ) → Invalid v j → Invalid w j
   invalid-up j h = (below-up j (h .0), up .rows j (h .0) .invalid (h .1))
 
   pub arc-up : (i k : ℕ) → Arc v i k → Live w i → Live w k → Arc w i k

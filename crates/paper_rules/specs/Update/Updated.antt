@@ -23,7 +23,7 @@ use Rattle.paper_board.specs.Paper.Tests.{live}
 use Rattle.paper_board.specs.BoardTests.Live.{live-yes, live-show, roomy}
 use Rattle.paper_rules.specs.Update.Updates.{store, link, invalidate, raised, marked, exclude, tighten, update}
 use Rattle.paper_rules.specs.Update.Extension.{above-self, Extended, Updated}
-use Rattle.paper_rules.specs.Update.Compose.{extends-same}
+use Rattle.paper_rules.specs.Update.ExtendsThen.{extends-same}
 use Rattle.paper_rules.specs.Update.Stores.{linked-new}
 use Rattle.paper_rules.specs.Update.StoreWithin.{store-within, invalidate-within, link-within}
 use Rattle.paper_rules.specs.Update.RaisedRows.{raised-mark, raised-bound, raised-above, raised-least, raised-fits, raised-short, valid-above, valid-least, marked-fits}

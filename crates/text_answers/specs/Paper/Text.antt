@@ -86,8 +86,8 @@ loadLimit = 65536
 abbrev pub overloaded : Served
 overloaded = record { replies = to-entry (no-number (numberOf Refused.Load)) ∷ []; board = emptyBoard emptyBooks }
 
-unfoldable pub answer : List ℕ → Served
-answer t = cond (leb (length t) loadLimit) (serve (emptyBoard emptyBooks) (linesOf t)) overloaded
+unfoldable pub serveText : List ℕ → Served
+serveText t = cond (leb (length t) loadLimit) (serve (emptyBoard emptyBooks) (linesOf t)) overloaded
 
 -- the bytes of the answers
 unfoldable pub output : List LineReply → List ℕ
