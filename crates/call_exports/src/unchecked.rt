@@ -1,5 +1,5 @@
 // The same calls without check 0: they require a board that passes it and don't test it, so that a host in C has to see to that.
-// The empty board passes, and what a call leaves of a board that passes: `empty-passes` and `left-passes` in specs/Passing.antt.
+// The empty board passes, and what a call leaves of a board that passes: `empty-board-passes` and `left-passes` in specs/LeftPasses.antt.
 use crate::enter;
 use call_dock::Dock;
 use call_reply_numbers::PairReplyNumbers;

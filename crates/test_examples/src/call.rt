@@ -6,7 +6,7 @@ use paper_plans::Planned;
 
 fn answered(entered: Entered) -> Board {
     let answer = entered.answer;
-    test_writing::entry(answer);
+    test_writing::answer(answer);
     entered.board
 }
 

@@ -27,9 +27,9 @@ pub fn play(boards: Boards, entry: Entry) -> Boards {
     let one = enter(boards.first, entry, lent);
     let other = enter(boards.second, entry, !lent);
     let answer = one.answer;
-    test_writing::entry(answer);
+    test_writing::answer(answer);
     let answer = other.answer;
-    test_writing::entry(answer);
+    test_writing::answer(answer);
     let first = one.board;
     let second = other.board;
     Boards {

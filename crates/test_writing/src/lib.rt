@@ -14,7 +14,7 @@ pub fn text(bytes: &[u8]) {
     io::write_all(STDOUT_FILENO, bytes);
 }
 
-pub fn entry(answer: Answer) {
+pub fn answer(answer: Answer) {
     let mut out = io::buffer();
     let end = put_answer(&mut out, 0, answer);
     text(&out[0..end]);

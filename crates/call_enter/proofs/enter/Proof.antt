@@ -5,7 +5,7 @@ use borrow.Author.Needs.{needs}
 use Rattle.paper_entries.specs.Paper.EntryOf.{entryOf}
 use Rattle.paper_entries.specs.Paper.Checks.{checks, firstRefusal}
 use Rattle.call_statements.specs.StatedBy.{stated-storable}
-use Rattle.call_enter.specs.Called.{refused-enter, concluded-enter}
+use Rattle.call_enter.specs.ConcludedEnter.{refused-enter, concluded-enter}
 use Rattle.call_enter.proofs.enter.Statement.{statement}
 use Rattle.call_enter.proofs.enter.Tie as tie
 

@@ -9,7 +9,7 @@ use Rattle.engine_findings.specs.InferredOf.{inferredOf}
 use Rattle.engine_advance.specs.Advances.{Advances}
 use Rattle.paper_closure.specs.Measure.{measure}
 use Rattle.engine_search.specs.Reads.{arrays-hold}
-use Rattle.engine_closure.specs.InPlace.{advances-none, advances-possible, advances-within, arrays-none, arrays-next, arrays-contradict, arrays-less, led, led-closed, led-unshown, led-known, led-placed, led-applicable}
+use Rattle.engine_closure.specs.LedClosed.{advances-none, advances-possible, advances-within, arrays-none, arrays-next, arrays-contradict, arrays-less, led, led-closed, led-unshown, led-known, led-placed, led-applicable}
 use Rattle.engine_closure.proofs.closure.Statement.{statement}
 use Rattle.engine_closure.proofs.closure.Tie as tie
 

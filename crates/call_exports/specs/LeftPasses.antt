@@ -13,8 +13,8 @@ use Rattle.paper_entries.specs.Paper.Enter.{enter}
 use Rattle.paper_entries.specs.Later.{call-later}
 use Rattle.call_reply_numbers.specs.ReplyNumbers.{replied}
 
-pub empty-passes : passes (emptyBoard emptyBooks) ≡ true
-empty-passes = checked.empty-passes emptyBooks within-emptyBooks
+pub empty-board-passes : passes (emptyBoard emptyBooks) ≡ true
+empty-board-passes = checked.empty-passes emptyBooks within-emptyBooks
 
 pub left-passes : (b : Board) (e : Entry) → passes b ≡ true → passes (replied (enter b e) .board) ≡ true
 left-passes b e p = call-later b e p .passes
