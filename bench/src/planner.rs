@@ -1,8 +1,8 @@
 //! The planner's tries on the baseline's board, by recursion: a placing goes on from the longer list, and a return takes it back.
 use crate::baseline::{Board, JOBS};
 use crate::words::{bit, Members};
-use bayboard::Plan;
 
+#[derive(Clone, Copy, Debug, PartialEq, Eq)]
 enum Ending {
     Found,
     None,
@@ -42,6 +42,47 @@ impl Planner<'_> {
     }
 }
 
+/// A plan, with no placed jobs and no starts unless it is found.
+#[derive(Clone, Copy, Debug, PartialEq, Eq)]
+pub struct Plan {
+    ending: Ending,
+    pub tries: u32,
+    placed: u64,
+    starts: [i32; JOBS],
+}
+
+impl Plan {
+    fn unplaced(ending: Ending, tries: u32) -> Plan {
+        Plan {
+            ending,
+            tries,
+            placed: 0,
+            starts: [0; JOBS],
+        }
+    }
+}
+
+/// The library's plan; where it is spent, the tries are the budget.
+impl From<bayboard::Plan> for Plan {
+    fn from(plan: bayboard::Plan) -> Plan {
+        match plan {
+            bayboard::Plan::Found {
+                tries,
+                placed,
+                starts,
+                ..
+            } => Plan {
+                ending: Ending::Found,
+                tries,
+                placed,
+                starts,
+            },
+            bayboard::Plan::None { tries } => Plan::unplaced(Ending::None, tries),
+            bayboard::Plan::Spent { budget } => Plan::unplaced(Ending::Spent, budget),
+        }
+    }
+}
+
 /// The plan of all valid jobs with at most `budget` tries.
 pub fn plan(board: &Board, budget: u32) -> Plan {
     let mut planner = Planner {
@@ -52,12 +93,12 @@ pub fn plan(board: &Board, budget: u32) -> Plan {
     let ending = planner.go_on(board.valid, i32::MIN);
     let tries = budget - planner.left;
     match ending {
-        Ending::Found => Plan::Found {
+        Ending::Found => Plan {
+            ending,
             tries,
             placed: board.valid,
             starts: planner.starts,
         },
-        Ending::None => Plan::None { tries },
-        Ending::Spent => Plan::Spent { budget },
+        Ending::None | Ending::Spent => Plan::unplaced(ending, tries),
     }
 }

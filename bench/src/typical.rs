@@ -7,7 +7,7 @@ use crate::measure::{measure, Measured, Median, Turns};
 use crate::planner::plan;
 use crate::works::Whole;
 use crate::{baseline, SIZES};
-use bayboard::{Board, Calls, Dock, Plan};
+use bayboard::{Board, Dock};
 use std::hint::black_box;
 
 const TURNS: usize = 101;
@@ -68,9 +68,7 @@ fn print_planner() {
     for entry in tight(12) {
         boards.enter(entry).expect("the jobs fit one by one");
     }
-    let tries = match boards.plan(BUDGET) {
-        Plan::Found { tries, .. } | Plan::None { tries } | Plan::Spent { budget: tries } => tries,
-    };
+    let tries = boards.plan(BUDGET).tries;
     let m = measure(
         Turns::exactly(TURNS / 5),
         &mut [

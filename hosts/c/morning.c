@@ -67,6 +67,7 @@ static void print(const bayboard *board)
 
 int main(void)
 {
+    expect(bayboard_matches(), "a library of this header's version");
     bayboard board = bayboard_empty();
     book(&board);
     expect(bayboard_passes(&board), "a board that the calls left passes check 0");

@@ -1,9 +1,12 @@
-/* Tests of both headers: every refusal of every call, every ending of a plan, and what rows and pairs show.
+/* Tests of both headers: every refusal of every call, every ending of a plan, and what rows and pairs show; and what the header says of
+ * its version, the limits, the texts, the bytes of a board, threads and the stack.
  *
  * The numbers expected are written out as the paper has them, with the header's name beside each that has one: two names that
  * are swapped in a header are seen here, and so are two fields of a reply. */
+#define _POSIX_C_SOURCE 200809L
 #include "bayboard_unchecked.h"
 
+#include <pthread.h>
 #include <stdio.h>
 #include <string.h>
 
@@ -184,21 +187,36 @@ static int refusal(bayboard *board, const test *test)
     }
 }
 
-/* The fields stand without gaps up to the last of the books; what follows them is no field. */
 static bool same_boards(const bayboard *a, const bayboard *b)
 {
-    return memcmp(a, b, offsetof(bayboard, books) + sizeof a->books) == 0;
+    return memcmp(a, b, BAYBOARD_FIELD_BYTES) == 0;
 }
 
-/* Expects a refusal, or ACCEPTED, of a test's call on a board, and that a refusal alters nothing but the tally. */
+static void pad(bayboard *board, int byte)
+{
+    memset((unsigned char *)board + BAYBOARD_FIELD_BYTES, byte, sizeof *board - BAYBOARD_FIELD_BYTES);
+}
+
+/* Expects a refusal, or ACCEPTED, of a test's call on a board, whatever its padding; that a refusal alters nothing but the tally; and
+ * that the call writes nothing beside the board. */
 static void expect_refusal(int number, bayboard board, const test *test, uint32_t tally, const char *what)
 {
     const int32_t *n = test->numbers;
+    const char *call = call_names[test->call];
     bayboard unaltered = board;
     unaltered.books.tally = tally;
-    expect(refusal(&board, test) == number, call_names[test->call], n[0], n[1], what);
-    if (number != ACCEPTED)
-        expect(same_boards(&board, &unaltered), call_names[test->call], n[0], n[1], "the board after it");
+    for (int byte = 0; byte <= 255; byte += 255) {
+        struct {
+            uint64_t low;
+            bayboard board;
+            uint64_t high;
+        } kept = {UINT64_MAX / 3, board, UINT64_MAX / 3};
+        pad(&kept.board, byte);
+        expect(refusal(&kept.board, test) == number, call, n[0], n[1], what);
+        expect(kept.low == UINT64_MAX / 3 && kept.high == UINT64_MAX / 3, call, n[0], n[1], "what stands beside the board");
+        if (number != ACCEPTED)
+            expect(same_boards(&kept.board, &unaltered), call, n[0], n[1], "the board after it");
+    }
 }
 
 /* "number 8 adds one to the tally", which "stops at 1000000" */
@@ -329,6 +347,146 @@ static void test_broken_boards(void)
     }
 }
 
+static void test_version(void)
+{
+    expect(bayboard_version() == BAYBOARD_VERSION, "version", (int32_t)bayboard_version(), BAYBOARD_VERSION, "the header's");
+    expect(bayboard_size() == 1872, "size", (int32_t)bayboard_size(), (int32_t)sizeof(bayboard), "the header's");
+    expect(bayboard_matches(), "matches", (int32_t)bayboard_version(), (int32_t)bayboard_size(), "library and header");
+}
+
+/* At each limit stand calls of the table above, with the numbers written out. */
+static void test_limits(void)
+{
+    static const int32_t limits[][2] = {
+        {BAYBOARD_JOBS, 64},
+        {BAYBOARD_SHORTEST, 1},
+        {BAYBOARD_LONGEST, 10000},
+        {BAYBOARD_FIRST_MINUTE, -500000},
+        {BAYBOARD_LAST_MINUTE, 500000},
+        {BAYBOARD_TALLY, 1000000},
+        {BAYBOARD_BUDGET, 1000000},
+    };
+    for (size_t i = 0; i < sizeof limits / sizeof *limits; i++)
+        expect(limits[i][0] == limits[i][1], "limit", limits[i][0], limits[i][1], "its constant");
+}
+
+static void test_texts(void)
+{
+    static const char *const texts[] = {
+        "the board is not in order", "the board is full", "no such job", "one job twice", "the length is out of range",
+        "a time is out of range", "the window is empty", "no such mark here", "impossible", "the budget is out of range",
+    };
+    static const uint64_t others[] = {10, 11, 1ull << 32, UINT64_MAX};
+    for (int32_t number = 0; number < 10; number++)
+        expect(strcmp(bayboard_refusal_text((uint64_t)number), texts[number]) == 0, "text", number, 0, texts[number]);
+    for (int32_t i = 0; i < 4; i++)
+        expect(strcmp(bayboard_refusal_text(others[i]), "no refusal of these calls") == 0, "text", i, 0, "of another number");
+}
+
+/* A number of so many bytes, the least first. */
+static uint64_t number_at(const unsigned char *bytes, int offset, int size)
+{
+    uint64_t number = 0;
+    while (size-- > 0)
+        number = number << 8 | bytes[offset + size];
+    return number;
+}
+
+static void test_bytes(const bayboard *board)
+{
+    unsigned char bytes[sizeof(bayboard)] = {0};
+    memcpy(bytes, board, BAYBOARD_FIELD_BYTES);
+    expect(number_at(bytes, 0, 8) == board->jobs, "bytes", 0, 8, "jobs");
+    for (int k = 0; k < 64; k++) {
+        expect(number_at(bytes, 8 + 4 * k, 4) == (uint32_t)board->lengths[k], "bytes", 8, k, "lengths");
+        expect(number_at(bytes, 264 + 4 * k, 4) == (uint32_t)board->earliest[k], "bytes", 264, k, "earliest");
+        expect(number_at(bytes, 520 + 4 * k, 4) == (uint32_t)board->latest[k], "bytes", 520, k, "latest");
+        expect(number_at(bytes, 776 + k, 1) == board->marks[k], "bytes", 776, k, "marks");
+        expect(number_at(bytes, 840 + 8 * k, 8) == board->after[k], "bytes", 840, k, "after");
+        expect(number_at(bytes, 1352 + 8 * k, 8) == board->before[k], "bytes", 1352, k, "before");
+    }
+    expect(number_at(bytes, 1864, 4) == board->books.tally, "bytes", 1864, 4, "tally");
+    expect(number_at(bytes, 1868, 4) == 0, "bytes", 1868, 4, "padding");
+    bayboard back;
+    memcpy(&back, bytes, sizeof back);
+    expect(same_boards(&back, board) && bayboard_passes(&back), "bytes", 0, 1872, "taken back");
+    back.books.tally ^= 1;
+    expect(!same_boards(&back, board), "bytes", 1864, 4, "another tally");
+}
+
+static void test_bytes_of_boards(void)
+{
+    bayboard night = empty;
+    add(&night, 10, -2, 300, 1);
+    night.books.tally = 66051;
+    unsigned char bytes[sizeof(bayboard)];
+    memcpy(bytes, &night, sizeof bytes);
+    static const unsigned char first[] = {254, 255, 255, 255}, last[] = {44, 1, 0, 0}, tally[] = {3, 2, 1, 0};
+    expect(memcmp(bytes + 264, first, 4) == 0, "bytes", 264, -2, "a negative number");
+    expect(memcmp(bytes + 520, last, 4) == 0, "bytes", 520, 300, "the least byte first");
+    expect(memcmp(bytes + 1864, tally, 4) == 0, "bytes", 1864, 66051, "the least byte first");
+    const bayboard *const boards[] = {&six, &full, &tight, &empty, &night};
+    for (int i = 0; i < 5; i++)
+        test_bytes(boards[i]);
+}
+
+enum { THREADS = 4, ROUNDS = 1000, STACK = 64 * 1024, SUFFICIENT = 16 * 1024, PAINT = 0xA5 };
+static _Alignas(4096) unsigned char stacks[THREADS][STACK];
+
+/* A thread that makes the calls of all tests on a board of its own, which is known by its tally. */
+typedef struct {
+    const unsigned char *stack;
+    uint32_t tally;
+    bayboard board;
+    int wrong;      /* replies that aren't the test's, and tallies that aren't the thread's */
+    ptrdiff_t used; /* of the stack, by the calls and their callers here */
+} thread;
+
+static void *make_calls(void *own)
+{
+    thread *self = own;
+    unsigned char here = 0;
+    for (int round = 0; round < ROUNDS; round++)
+        for (int i = 0; i < TESTS; i++) {
+            self->board = *tests[i].board;
+            self->board.books.tally = self->tally;
+            self->wrong += refusal(&self->board, &tests[i]) != tests[i].refusal;
+            self->wrong += self->board.books.tally != self->tally + (tests[i].refusal == 8);
+        }
+    const unsigned char *deepest = self->stack;
+    while (*deepest == PAINT)
+        deepest++;
+    self->used = &here - deepest;
+    return NULL;
+}
+
+static bool start(pthread_t *id, thread *own, unsigned char *stack)
+{
+    pthread_attr_t attributes;
+    pthread_attr_init(&attributes);
+    pthread_attr_setstack(&attributes, stack, STACK);
+    bool started = pthread_create(id, &attributes, make_calls, own) == 0;
+    pthread_attr_destroy(&attributes);
+    return started;
+}
+
+static void test_threads(void)
+{
+    static thread own[THREADS];
+    pthread_t ids[THREADS];
+    bool started[THREADS];
+    memset(stacks, PAINT, sizeof stacks);
+    for (int i = 0; i < THREADS; i++) {
+        own[i] = (thread){.stack = stacks[i], .tally = 1000 * (uint32_t)i};
+        started[i] = start(&ids[i], &own[i], stacks[i]);
+    }
+    for (int i = 0; i < THREADS; i++) {
+        expect(started[i] && pthread_join(ids[i], NULL) == 0, "thread", i, 0, "from its start to its end");
+        expect(own[i].wrong == 0, "thread", i, own[i].wrong, "its replies");
+        expect(own[i].used > 0 && own[i].used < SUFFICIENT, "thread", i, (int32_t)own[i].used, "its stack");
+    }
+}
+
 int main(void)
 {
     static const calls *const both[] = {&unchecked, &checked};
@@ -339,8 +497,13 @@ int main(void)
         test_rows();
         test_pairs();
         test_plans();
+        test_threads();
     }
     test_broken_boards();
+    test_version();
+    test_limits();
+    test_texts();
+    test_bytes_of_boards();
     printf("refusals: %d passed, %d failed\n", passed, failed);
     return failed != 0;
 }

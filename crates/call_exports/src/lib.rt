@@ -21,6 +21,7 @@ ghost use Rattle.paper_plans.specs.Paper.Planner as planning;
 ghost use Rattle.call_reply_numbers.specs.ReplyNumbers.{replied, rowReplyNumbers, pairReplyNumbers, planReplyNumbers};
 
 pub mod unchecked;
+pub mod version;
 
 // A board without jobs whose tally starts at 0.
 #[no_mangle]

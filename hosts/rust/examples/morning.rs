@@ -25,7 +25,10 @@ fn list(set: u64) -> String {
 }
 
 fn print(dock: &impl Calls, board: &Board) -> Result<(), Refusal> {
-    println!("{} jobs, {} refused as impossible", board.jobs, board.books.tally);
+    println!(
+        "{} jobs, {} refused as impossible",
+        board.jobs, board.books.tally
+    );
     for job in 0..board.jobs {
         let row = dock.row(job)?;
         let (mark, before, after) = (row.mark as u8, list(row.before), list(row.after));
@@ -40,6 +43,7 @@ fn print(dock: &impl Calls, board: &Board) -> Result<(), Refusal> {
         tries,
         placed,
         starts,
+        ..
     } = dock.plan(1000)?
     else {
         panic!("there is a plan");

@@ -1,6 +1,6 @@
 //! What the calls take and give, as Rust's own types: the library's numbers are made into them.
 use crate::ffi::{PairReply, PlanReply, Reply, RowReply};
-use crate::JOBS;
+use crate::Board;
 use std::fmt;
 
 /// A job's mark.
@@ -14,7 +14,8 @@ pub enum Mark {
 }
 
 /// Why a call is refused, with the paper's numbers. A refusal alters nothing, but for [`Refusal::Impossible`], which counts
-/// one in the tally. (The refusals 10 and 11 belong to the text program alone.)
+/// one in the tally. (The refusals 10 and 11 belong to the text program alone.) Further calls may bring further refusals.
+#[non_exhaustive]
 #[derive(Clone, Copy, Debug, PartialEq, Eq, Hash)]
 pub enum Refusal {
     /// The board breaks a limit, keeps something twice that doesn't agree, or isn't closed over what it shows.
@@ -60,7 +61,8 @@ impl fmt::Display for Refusal {
 impl std::error::Error for Refusal {}
 
 /// A job's row. The sets of jobs before and after it are words, bit k for job k; [`members`] lists one.
-#[derive(Clone, Copy, Debug, PartialEq, Eq)]
+#[must_use]
+#[derive(Clone, Copy, Debug, PartialEq, Eq, Hash)]
 pub struct Row {
     pub mark: Mark,
     pub earliest: i32,
@@ -81,7 +83,8 @@ pub enum Arcs {
 }
 
 /// Two jobs A and B: their arcs and the gap, E of B minus D of A. No arcs and 0 if either is invalid.
-#[derive(Clone, Copy, Debug, PartialEq, Eq)]
+#[must_use]
+#[derive(Clone, Copy, Debug, PartialEq, Eq, Hash)]
 pub struct Pair {
     pub arcs: Arcs,
     pub gap: i32,
@@ -90,13 +93,15 @@ pub struct Pair {
 /// How a plan ends.
 // A plan goes by value, without the heap.
 #[allow(clippy::large_enum_variant)]
-#[derive(Clone, Copy, Debug, PartialEq, Eq)]
+#[must_use]
+#[derive(Clone, Copy, Debug, PartialEq, Eq, Hash)]
 pub enum Plan {
-    /// All valid jobs are placed: `placed` as a word, bit k for job k, with `starts[k]` for each.
+    /// All valid jobs are placed: `placed` as a word, bit k for job k, with `starts[k]` for each. It may get further fields.
+    #[non_exhaustive]
     Found {
         tries: u32,
         placed: u64,
-        starts: [i32; JOBS],
+        starts: [i32; Board::JOBS],
     },
     /// The entries have no schedule at all.
     None { tries: u32 },
@@ -106,7 +111,7 @@ pub enum Plan {
 
 /// The jobs of a set, in ascending number.
 pub fn members(set: u64) -> impl Iterator<Item = usize> {
-    (0..JOBS).filter(move |job| set >> job & 1 == 1)
+    (0..Board::JOBS).filter(move |job| set >> job & 1 == 1)
 }
 
 // No call replies another number: crates/call_reply_numbers/specs/Table.antt.

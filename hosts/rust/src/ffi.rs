@@ -1,6 +1,6 @@
 //! The library's structs and functions as C has them. Nothing holds these declarations to the library but the layout below and
 //! the tests, which call each function.
-use crate::{Board, JOBS};
+use crate::{Board, Books};
 use std::mem::{offset_of, size_of};
 
 #[repr(C)]
@@ -33,10 +33,13 @@ pub struct PlanReply {
     pub ending: u8,
     pub number: u32,
     pub placed: u64,
-    pub starts: [i32; JOBS],
+    pub starts: [i32; Board::JOBS],
 }
 
 unsafe extern "C" {
+    pub safe fn bayboard_version() -> u32;
+    pub safe fn bayboard_size() -> usize;
+
     // For every board: they ask nothing beyond what holds of a reference.
     pub safe fn bayboard_empty() -> Board;
     pub safe fn bayboard_passes(board: &Board) -> bool;
@@ -76,9 +79,15 @@ unsafe extern "C" {
 }
 
 // The layout that the library has, as in hosts/c/bayboard.h.
-const _: () = assert!(size_of::<Board>() == 1872 && offset_of!(Board, books.tally) == 1864);
-const _: () = assert!(offset_of!(Board, lengths) == 8 && offset_of!(Board, earliest) == 264);
-const _: () = assert!(offset_of!(Board, latest) == 520 && offset_of!(Board, marks) == 776);
-const _: () = assert!(offset_of!(Board, after) == 840 && offset_of!(Board, before) == 1352);
-const _: () = assert!(size_of::<Reply>() == 16 && size_of::<RowReply>() == 40);
-const _: () = assert!(size_of::<PairReply>() == 16 && size_of::<PlanReply>() == 272);
+macro_rules! layout {
+    ($type:ty, $size:literal, $($field:ident $offset:literal),+) => {
+        const _: () = assert!(size_of::<$type>() == $size $(&& offset_of!($type, $field) == $offset)+);
+    };
+}
+
+layout!(Board, 1872, jobs 0, lengths 8, earliest 264, latest 520, marks 776, after 840, before 1352, books 1864);
+layout!(Books, 4, tally 0);
+layout!(Reply, 16, accepted 0, number 8);
+layout!(RowReply, 40, accepted 0, refusal 4, mark 8, earliest 12, latest 16, before 24, after 32);
+layout!(PairReply, 16, accepted 0, refusal 4, arcs 8, gap 12);
+layout!(PlanReply, 272, ending 0, number 4, placed 8, starts 16);

@@ -5,7 +5,7 @@
 //! check 0 and that only its calls write, so that nothing has to be tested again.
 //!
 //! ```
-//! use bayboard::{Calls, Dock, Mark, Refusal};
+//! use bayboard::{Dock, Mark, Refusal};
 //!
 //! let mut dock = Dock::new();
 //! let dairy = dock.addition(45, 360, 480, Mark::Valid)?;
@@ -15,49 +15,23 @@
 //! assert_eq!(dock.cut(van, 360, 420), Err(Refusal::Impossible));
 //! # Ok::<(), Refusal>(())
 //! ```
+//!
+//! The library keeps nothing between calls, so that boards and docks may be sent to other threads and shared like other plain data. It
+//! takes no memory from the heap, and 16 kilobytes of stack suffice for each of its calls.
 #![deny(unsafe_code)]
 
 mod answers;
 mod board;
+mod bytes;
+mod calls;
 #[allow(unsafe_code)]
 mod dock;
 #[allow(unsafe_code)]
 mod ffi;
+mod version;
 
 pub use answers::{members, Arcs, Mark, Pair, Plan, Refusal, Row};
 pub use board::{Board, Books};
+pub use calls::Calls;
 pub use dock::Dock;
-
-/// "A board holds at most 64 jobs"
-pub const JOBS: usize = 64;
-
-/// The calls that the paper names: four entries, and three that look and alter nothing. Times are minutes, and jobs go by the
-/// numbers that their additions gave.
-pub trait Calls {
-    /// Adds a job of `length` minutes in the window from `earliest` to `latest`; gives the job's number.
-    fn addition(
-        &mut self,
-        length: i32,
-        earliest: i32,
-        latest: i32,
-        mark: Mark,
-    ) -> Result<usize, Refusal>;
-
-    /// `from` ends no later than `to` starts, if both take place.
-    fn arc(&mut self, from: usize, to: usize) -> Result<(), Refusal>;
-
-    /// Marks a job valid or invalid.
-    fn mark(&mut self, job: usize, mark: Mark) -> Result<(), Refusal>;
-
-    /// Narrows a job's window: the later E and the earlier D hold.
-    fn cut(&mut self, job: usize, earliest: i32, latest: i32) -> Result<(), Refusal>;
-
-    /// A job's mark, E, D, and the sets before and after it.
-    fn row(&self, job: usize) -> Result<Row, Refusal>;
-
-    /// The arcs between two jobs and their gap.
-    fn pair(&self, a: usize, b: usize) -> Result<Pair, Refusal>;
-
-    /// Plans all valid jobs with at most `budget` tries.
-    fn plan(&self, budget: u32) -> Result<Plan, Refusal>;
-}
+pub use version::{library_matches, library_version, VERSION};

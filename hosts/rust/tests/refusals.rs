@@ -1,6 +1,6 @@
-//! Every refusal of every call, every ending of a plan, and what rows and pairs show. The numbers are written out as the paper
-//! has them, beside the names that they have here: two that are swapped in the wrapper are seen.
-use bayboard::{Arcs, Board, Calls, Dock, Mark, Plan, Refusal, Row, JOBS};
+//! Every refusal of every call, every ending of a plan, what rows and pairs show, and the bytes of a board. The numbers are written out
+//! as the paper has them, beside the names that they have here: two that are swapped in the wrapper are seen.
+use bayboard::{Arcs, Board, Calls, Dock, Mark, Plan, Refusal, Row};
 use Mark::{Invalid, Undecided, Valid};
 
 /// A board with its calls: [`Board`] has check 0 in each, [`Dock`] in none.
@@ -21,7 +21,7 @@ impl Host for Board {
 
 impl Host for Dock {
     fn with(board: Board) -> Dock {
-        Dock::checked(board).expect("the board passes check 0")
+        Dock::try_from(board).expect("the board passes check 0")
     }
 
     fn board(&self) -> Board {
@@ -142,7 +142,7 @@ fn six<H: Host>() -> H {
 }
 
 fn full<H: Host>() -> H {
-    with_jobs(&[(1, 0, 100, Undecided); JOBS])
+    with_jobs(&[(1, 0, 100, Undecided); 64])
 }
 
 /// Three valid jobs of 10 minutes in 25: any two of them fit, so that the rules see nothing, and all three don't.
@@ -204,7 +204,7 @@ const ROWS: &[(usize, i32, u8, Row)] = &[
 fn test_rows<H: Host>() {
     let host = six::<H>();
     let board = host.board();
-    assert_eq!((board.jobs, JOBS), (6, 64));
+    assert_eq!(board.jobs, 6);
     for &(job, length, mark, row) in ROWS {
         assert_eq!(host.row(job), Ok(row), "job {job}");
         assert_eq!(row.mark as u8, mark, "job {job}");
@@ -238,19 +238,24 @@ fn test_pairs<H: Host>() {
     }
 }
 
-fn test_plans<H: Host>() {
-    let found = |tries, placed, firsts: &[i32]| {
-        let mut starts = [0; JOBS];
-        starts[..firsts.len()].copy_from_slice(firsts);
-        Plan::Found {
+/// The tries, the placed jobs and their starts.
+fn found(plan: Result<Plan, Refusal>) -> (u32, u64, [i32; 64]) {
+    match plan {
+        Ok(Plan::Found {
             tries,
             placed,
             starts,
-        }
-    };
-    let three = found(3, 0b100101, &[0, 0, 10, 0, 0, 100]);
-    assert_eq!(six::<H>().plan(3), Ok(three));
-    assert_eq!(with_jobs::<H>(&[]).plan(0), Ok(found(0, 0, &[])));
+            ..
+        }) => (tries, placed, starts),
+        other => panic!("no plan was found: {other:?}"),
+    }
+}
+
+fn test_plans<H: Host>() {
+    let mut starts = [0; 64];
+    assert_eq!(found(with_jobs::<H>(&[]).plan(0)), (0, 0, starts));
+    (starts[2], starts[5]) = (10, 100);
+    assert_eq!(found(six::<H>().plan(3)), (3, 0b100101, starts));
     assert_eq!(tight::<H>().plan(15), Ok(Plan::None { tries: 15 }));
     assert_eq!(tight::<H>().plan(14), Ok(Plan::Spent { budget: 14 }));
     assert_eq!(six::<H>().plan(2), Ok(Plan::Spent { budget: 2 }));
@@ -319,13 +324,14 @@ fn link(board: &mut Board, from: usize, to: usize) {
 #[test]
 fn a_broken_board_is_refused() {
     let six: Board = six();
-    assert_eq!(Dock::checked(six).map(Dock::into_board), Some(six));
+    assert_eq!(Dock::try_from(six).map(Board::from), Ok(six));
     assert_eq!(Refusal::Board as u32, 0);
     for (broken, damage) in BROKEN {
         let mut board = six;
         damage(&mut board);
         let before = board;
-        assert_eq!(Dock::checked(board), None, "{broken}");
+        assert_eq!(Dock::try_from(board), Err(Refusal::Board), "{broken}");
+        assert_eq!(Board::from_bytes(&board.to_bytes()), board, "{broken}");
         for &(call, _) in TESTS {
             let refusal = call.refusal(&mut board);
             assert_eq!(refusal, Some(Refusal::Board), "{broken}: {call:?}");
@@ -351,4 +357,59 @@ fn refusals_say_why() {
     for (refusal, text) in texts {
         assert_eq!(refusal.to_string(), text);
     }
+}
+
+/// At each limit stand calls of the table above, with the numbers written out.
+#[test]
+fn limits_are_the_papers() {
+    assert_eq!(Board::JOBS, 64);
+    assert_eq!((Board::SHORTEST, Board::LONGEST), (1, 10_000));
+    assert_eq!(
+        (Board::FIRST_MINUTE, Board::LAST_MINUTE),
+        (-500_000, 500_000)
+    );
+    assert_eq!((Board::TALLY, Board::BUDGET), (1_000_000, 1_000_000));
+}
+
+/// A number of so many bytes, the least first.
+fn number_at(bytes: &[u8], offset: usize, size: usize) -> u64 {
+    let most_first = bytes[offset..offset + size].iter().rev();
+    most_first.fold(0, |number, &byte| number << 8 | u64::from(byte))
+}
+
+/// The offsets are those of hosts/c/bayboard.h.
+fn test_bytes(board: Board) {
+    let bytes = board.to_bytes();
+    let minutes = |offset: usize, k: usize| number_at(&bytes, offset + 4 * k, 4) as u32 as i32;
+    let word = |offset: usize, k: usize| number_at(&bytes, offset + 8 * k, 8);
+    assert_eq!((bytes.len(), word(0, 0)), (1872, board.jobs as u64));
+    for k in 0..64 {
+        assert_eq!(minutes(8, k), board.lengths[k], "length {k}");
+        assert_eq!(minutes(264, k), board.earliest[k], "E {k}");
+        assert_eq!(minutes(520, k), board.latest[k], "D {k}");
+        assert_eq!(bytes[776 + k], board.marks[k], "mark {k}");
+        assert_eq!(word(840, k), board.after[k], "after {k}");
+        assert_eq!(word(1352, k), board.before[k], "before {k}");
+    }
+    assert_eq!(word(1864, 0), u64::from(board.books.tally));
+    let mut padded = bytes;
+    padded[1868..].fill(255);
+    assert_eq!(Board::from_bytes(&bytes), board);
+    assert_eq!(Board::from_bytes(&padded), board);
+}
+
+#[test]
+fn a_board_goes_to_bytes_and_back() {
+    let night: Board = with_jobs(&[(10, -2, 300, Valid)]);
+    let night = with_tally(night, 66_051);
+    assert_eq!(night.to_bytes()[264..268], [254, 255, 255, 255]);
+    assert_eq!(night.to_bytes()[520..524], [44, 1, 0, 0]);
+    assert_eq!(night.to_bytes()[1864..], [3, 2, 1, 0, 0, 0, 0, 0]);
+    for board in [six(), full(), tight(), Board::empty(), night] {
+        test_bytes(board);
+        assert_eq!(Dock::try_from(board).map(Board::from), Ok(board));
+    }
+    assert_eq!(Board::from_bytes(&[0; 1872]), Board::default());
+    let no_board = Board::from_bytes(&[255; 1872]);
+    assert_eq!(Dock::try_from(no_board), Err(Refusal::Board));
 }
