@@ -4,7 +4,7 @@ use paper_board::Refusal;
 use text_answers::carry_out;
 use text_forms::line::line_length;
 use text_forms::read;
-use text_replies::LONGEST;
+use text_replies::ANSWER_ROOM;
 use text_replies::put_refusal;
 ghost use mathlib.Core.Path.{_≡_};
 ghost use mathlib.Core.Bool.{true};
@@ -35,7 +35,7 @@ pub fn next(board: Board, text: &[u8], out: &mut [u8]) -> Piece
     let mut rest = text;
     let mut at = 0;
     while 0 < rest.len() {
-        if out.len() - at < LONGEST {
+        if out.len() - at < ANSWER_ROOM {
             return Piece {
                 board,
                 read: text.len() - rest.len(),

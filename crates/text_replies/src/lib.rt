@@ -13,7 +13,7 @@ ghost use Rattle.text_replies.specs.Paper.ReplyTexts.{refusalText, entry
 ghost use Rattle.text_replies.specs.Room.{answerRoom};
 
 // Room for any answer: the longest is a plan of all jobs.
-pub const LONGEST: usize = 2304;
+pub const ANSWER_ROOM: usize = 2304;
 
 // "`(no R)` with refusal R"
 pub fn put_refusal(out: &mut [u8], at: usize, refusal: Refusal) -> usize
