@@ -1,7 +1,7 @@
 /* The bay board for C and C++: the host keeps the board, a plain struct; the calls alter it where it is kept, or look at it there.
  *
  * Each function is proved, for every board and all numbers, to reply just what the paper says: the equations stand in
- * crates/call_exports/src/lib.rt, the replies in crates/call_reply_numbers/specs/Replies.antt. What C can't be held to is asked of the caller:
+ * crates/call_exports/src/lib.rt, the replies in crates/call_reply_numbers/specs/ReplyNumbers.antt. What C can't be held to is asked of the caller:
  * a pointer to one board that nobody else reads or writes, or in a const call writes, until the call returns. Each call tests
  * the board first (check 0); calls without that test, for wrappers, are in bayboard_unchecked.h.
  *
@@ -48,7 +48,7 @@ enum { BAYBOARD_UNDECIDED = 0, BAYBOARD_VALID = 1, BAYBOARD_INVALID = 2 };
 
 /* Why a call is refused. If several apply, the first is given. A refusal alters nothing, but for `impossible`, which counts
  * one in the tally. (10 and 11 belong to the text program alone.) Beside each call below stand the refusals that it has: no other
- * number occurs (crates/call_reply_numbers/specs/Table.antt), and each of them does (`Demand1.met` in crates/paper_demands/specs/Demands.antt). */
+ * number occurs (crates/call_reply_numbers/specs/ReplyRefusals.antt), and each of them does (`Demand1.met` in crates/paper_demands/specs/Demands.antt). */
 enum {
     BAYBOARD_NO_BOARD = 0,      /* the board breaks a limit, keeps something twice that doesn't agree, or isn't closed */
     BAYBOARD_NO_FULL = 1,       /* an addition to 64 jobs */

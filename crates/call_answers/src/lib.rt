@@ -8,7 +8,7 @@ ghost use mathlib.Core.Path.{_≡_};
 ghost use Prim.Native.Nat.{_+_, min};
 ghost use Rattle.paper_board.specs.Paper.Limits.{tallyLimit};
 ghost use Rattle.paper_entries.specs.Paper.Enter as paper;
-ghost use Rattle.paper_entries.specs.Paper.Values.{entryOf};
+ghost use Rattle.paper_entries.specs.Paper.EntryOf.{entryOf};
 
 // "A refusal carries its number only and alters nothing"
 pub fn refused(refusal: Refusal, board: Board) -> Entered

@@ -7,11 +7,11 @@ use Prim.Native.Nat.{ℕ}
 use lib.IntN.{ℤ}
 use Rattle.paper_board.specs.declared.Board.{Board}
 use Rattle.paper_board.specs.Paper.Limits.{Within}
-use Rattle.paper_rules.specs.Update.Filled.{filled, possibly, ArraysWithin, Alters}
+use Rattle.paper_rules.specs.Update.ArraysWithin.{filled, possibly, ArraysWithin, Alters}
 use Rattle.paper_rules.specs.Update.Updates.{_andThen_}
-use Rattle.paper_closure.specs.Closing.{closure}
+use Rattle.paper_closure.specs.Closure.{closure}
 use Rattle.call_statements.specs.declared.Stated.{Stated}
-use Rattle.call_statements.specs.Stated.{rawOf, jobsWith, grown, Admissible, States, stated-within}
+use Rattle.call_statements.specs.Stated.{rawOf, jobsWith, grown, Storable, States, stated-within}
 
 -- on any board of n jobs within its limits the arrays are altered to those of the closed board, or there is none
 abbrev pub Attempts : Stated → ℕ → List ℤ → List ℤ → List ℤ → List ℕ → List ℕ → List ℕ → Bool → List ℤ → List ℤ → List ℤ → List ℕ → List ℕ → List ℕ → Type 0
@@ -25,14 +25,14 @@ unfolding _andThen_
 none-stated possible o c e f = rw (e, f)
 
 -- the closure of what is stated
-pub then-closed : (o : Option Board) (c : Board) → o ≡ some c → (r : Option Board) → closure c ≡ r → (o andThen closure) ≡ r
+then-closed : (o : Option Board) (c : Board) → o ≡ some c → (r : Option Board) → closure c ≡ r → (o andThen closure) ≡ r
 unfolding _andThen_
 then-closed o c e r d = rw e d
 
 module _ (s : Stated) (n m : ℕ) (lengths earliest latest : List ℤ) (marks after before : List ℕ) (possible : Bool)
     (lengths' earliest' latest' : List ℤ) (marks' after' before' : List ℕ)
     (states : States s n lengths earliest latest marks after before possible lengths' earliest' latest' marks' after' before')
-    (holds : possible ≡ true) (admissible : Admissible n s) (counted : m ≡ jobsWith n s) where
+    (holds : possible ≡ true) (storable : Storable n s) (counted : m ≡ jobsWith n s) where
   shows : (b : Board) → b .jobs ≡ n → Within (filled b lengths earliest latest marks after before)
       → rawOf (filled b lengths earliest latest marks after before) s ≡ some (filled (grown b s) lengths' earliest' latest' marks' after' before')
   shows b jobs within =
@@ -42,7 +42,7 @@ module _ (s : Stated) (n m : ℕ) (lengths earliest latest : List ℤ) (marks af
   stated-board : (b : Board) → b .jobs ≡ n → Within (filled b lengths earliest latest marks after before)
       → Within (filled (grown b s) lengths' earliest' latest' marks' after' before')
   stated-board b jobs within =
-      stated-within (filled b lengths earliest latest marks after before) within s (subst (λ k. Admissible k s) (sym jobs) admissible) _
+      stated-within (filled b lengths earliest latest marks after before) within s (subst (λ k. Storable k s) (sym jobs) storable) _
       (shows b jobs within)
 
   count : (b : Board) → b .jobs ≡ n → jobsWith (b .jobs) s ≡ m

@@ -6,8 +6,8 @@ use call_statements::Stated;
 use engine_agenda::Agenda;
 use engine_closure::closure;
 use paper_board::Board;
-ghost use Rattle.paper_rules.specs.Update.Filled.{ArraysWithin};
-ghost use Rattle.call_statements.specs.Stated.{Admissible};
+ghost use Rattle.paper_rules.specs.Update.ArraysWithin.{ArraysWithin};
+ghost use Rattle.call_statements.specs.Stated.{Storable};
 ghost use Rattle.call_attempts.specs.Attempts.{Attempts};
 
 // False, where no closed board shows what is stated, and then the arrays are of no account.
@@ -21,7 +21,7 @@ pub fn attempt(
     before: &mut [u64; Board::JOBS],
     stated: Stated,
 ) -> bool
-    requires { ⌜ ArraysWithin jobs (now lengths) (now earliest) (now latest) (now marks) (now after) (now before) × Admissible jobs stated ⌝ }
+    requires { ⌜ ArraysWithin jobs (now lengths) (now earliest) (now latest) (now marks) (now after) (now before) × Storable jobs stated ⌝ }
     ensures { λ r. ⌜ Attempts stated jobs (now (lengths .entry)) (now (earliest .entry)) (now (latest .entry)) (now (marks .entry)) (now (after .entry)) (now (before .entry)) r (now (lengths .exit)) (now (earliest .exit)) (now (latest .exit)) (now (marks .exit)) (now (after .exit)) (now (before .exit)) ⌝ }
 {
     if !state(

@@ -1,3 +1,3 @@
 -- The checks of a job, of a pair and of a budget, as code.
-pub mod Values
-pub mod Natural
+pub mod RefusalOf
+pub mod CastNumber

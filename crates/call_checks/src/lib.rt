@@ -8,21 +8,21 @@ ghost use lib.IntN.{pos};
 ghost use lib.Signed.{_≤ℤ_};
 ghost use Rattle.ground_arithmetic.specs.Linear.{eqZ};
 ghost use Rattle.paper_entries.specs.Paper.Entry as entry;
-ghost use Rattle.paper_entries.specs.Paper.Gate as paper;
-ghost use Rattle.paper_entries.specs.Paper.Gate.{Check, isJob, jobCheck, pairChecks, budgetCheck, gate};
-ghost use Rattle.call_checks.specs.Values.{refusalOf};
+ghost use Rattle.paper_entries.specs.Paper.Checks as paper;
+ghost use Rattle.paper_entries.specs.Paper.Checks.{Check, isJob, jobCheck, pairChecks, budgetCheck, firstRefusal};
+ghost use Rattle.call_checks.specs.RefusalOf.{refusalOf};
 
-// What the checks say of a call: no refusal, or the first that it meets.
-pub enum Gate {
-    Open,
-    Closed(Refusal),
+// What the checks say of a call: none is met, or the refusal of the first that is.
+pub enum Checked {
+    Unmet,
+    Met(Refusal),
 }
 
 // A line of the table, and what the lines after it say.
-pub fn line(refusal: Refusal, met: bool, rest: Gate) -> Gate
-    ensures { λ r. ⌜ ((cs : List Check) → refusalOf rest ≡ gate cs → refusalOf r ≡ gate (paper.line refusal met ∷ cs)) ⌝ }
+pub fn line(refusal: Refusal, met: bool, rest: Checked) -> Checked
+    ensures { λ r. ⌜ ((cs : List Check) → refusalOf rest ≡ firstRefusal cs → refusalOf r ≡ firstRefusal (paper.line refusal met ∷ cs)) ⌝ }
 {
-    if met { Gate::Closed(refusal) } else { rest }
+    if met { Checked::Met(refusal) } else { rest }
 }
 
 // A number that is not negative, as the number of a job.
@@ -69,20 +69,20 @@ fn is_same(a: i32, b: i32) -> bool
 }
 
 // 2 job
-pub fn job_gate(jobs: usize, job: i32) -> Gate
-    ensures { λ r. ⌜ refusalOf r ≡ gate (jobCheck jobs job ∷ []) ⌝ }
+pub fn job_check(jobs: usize, job: i32) -> Checked
+    ensures { λ r. ⌜ refusalOf r ≡ firstRefusal (jobCheck jobs job ∷ []) ⌝ }
 {
-    line(Refusal::Job, !is_job(jobs, job), Gate::Open)
+    line(Refusal::Job, !is_job(jobs, job), Checked::Unmet)
 }
 
 // 2 job, 3 same
-pub fn pair_gate(jobs: usize, a: i32, b: i32) -> Gate
-    ensures { λ r. ⌜ refusalOf r ≡ gate (pairChecks jobs a b) ⌝ }
+pub fn pair_checks(jobs: usize, a: i32, b: i32) -> Checked
+    ensures { λ r. ⌜ refusalOf r ≡ firstRefusal (pairChecks jobs a b) ⌝ }
 {
     line(
         Refusal::Job,
         !are_jobs(jobs, a, b),
-        line(Refusal::Same, is_same(a, b), Gate::Open),
+        line(Refusal::Same, is_same(a, b), Checked::Unmet),
     )
 }
 
@@ -90,8 +90,8 @@ pub fn pair_gate(jobs: usize, a: i32, b: i32) -> Gate
 const BUDGET: i32 = 1000000;
 
 // 9 budget
-pub fn budget_gate(budget: i32) -> Gate
-    ensures { λ r. ⌜ refusalOf r ≡ gate (budgetCheck budget ∷ []) ⌝ }
+pub fn budget_check(budget: i32) -> Checked
+    ensures { λ r. ⌜ refusalOf r ≡ firstRefusal (budgetCheck budget ∷ []) ⌝ }
 {
-    line(Refusal::Budget, !between(0, BUDGET, budget), Gate::Open)
+    line(Refusal::Budget, !between(0, BUDGET, budget), Checked::Unmet)
 }

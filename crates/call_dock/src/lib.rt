@@ -9,10 +9,10 @@ use paper_entries::RowAnswer;
 use paper_plans::PlanAnswer;
 use paper_plans::Planned;
 ghost use mathlib.Core.Path.{_≡_};
-ghost use Rattle.paper_closure.specs.Check as check;
+ghost use Rattle.paper_closure.specs.Passes as check;
 ghost use Rattle.paper_entries.specs.Paper.Entry as entry;
 ghost use Rattle.paper_entries.specs.Paper.Enter as paper;
-ghost use Rattle.paper_entries.specs.Paper.Values.{entryOf};
+ghost use Rattle.paper_entries.specs.Paper.EntryOf.{entryOf};
 ghost use Rattle.paper_entries.specs.Paper.Looking as looking;
 ghost use Rattle.paper_plans.specs.Paper.Planner as planning;
 

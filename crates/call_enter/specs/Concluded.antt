@@ -4,11 +4,11 @@ use mathlib.Core.Bool.{Bool, true, false}
 use mathlib.Core.Option.{Option, some}
 use Rattle.paper_board.specs.declared.Board.{Board}
 use Rattle.paper_board.specs.declared.Refusal.the-variants as Refused
-use Rattle.paper_rules.specs.Update.Filled.{possibly}
+use Rattle.paper_rules.specs.Update.ArraysWithin.{possibly}
 use Rattle.paper_rules.specs.Update.Updates.{_andThen_}
-use Rattle.paper_closure.specs.Check.{passes}
-use Rattle.paper_closure.specs.Checked.{closed-already}
-use Rattle.paper_closure.specs.Closing.{closure}
+use Rattle.paper_closure.specs.Passes.{passes}
+use Rattle.paper_closure.specs.PassesClosed.{closed-already}
+use Rattle.paper_closure.specs.Closure.{closure}
 use Rattle.paper_entries.specs.declared.Answer.{Answer}
 use Rattle.paper_entries.specs.declared.Entered.{Entered}
 use Rattle.paper_entries.specs.Paper.Enter.{refused, counted, concluded}

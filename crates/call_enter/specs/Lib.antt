@@ -1,3 +1,3 @@
 -- The entry calls as code.
-pub mod Called
+pub mod ConcludedEnter
 pub mod Concluded

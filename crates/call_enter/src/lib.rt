@@ -4,8 +4,8 @@ use call_answers::acceptance;
 use call_answers::impossible;
 use call_answers::refused;
 use call_attempts::attempt;
-use call_checks::Gate;
-use call_entry_checks::entry_gate;
+use call_checks::Checked;
+use call_entry_checks::entry_checks;
 use call_raw_entries::is_shown;
 use call_raw_entries::jobs_with;
 use call_statements::Stated;
@@ -17,17 +17,17 @@ use paper_entries::Entry;
 ghost use mathlib.Core.Path.{_≡_};
 ghost use mathlib.Core.Bool.{true};
 ghost use Rattle.paper_rules.specs.Update.Updates.{_andThen_};
-ghost use Rattle.paper_closure.specs.Check.{passes};
-ghost use Rattle.paper_closure.specs.Closing as closing;
+ghost use Rattle.paper_closure.specs.Passes.{passes};
+ghost use Rattle.paper_closure.specs.Closure as closing;
 ghost use Rattle.paper_entries.specs.Paper.Enter as paper;
-ghost use Rattle.paper_entries.specs.Paper.Values.{entryOf};
-ghost use Rattle.call_statements.specs.Stated.{rawOf, Admissible};
+ghost use Rattle.paper_entries.specs.Paper.EntryOf.{entryOf};
+ghost use Rattle.call_statements.specs.Stated.{rawOf, Storable};
 
 // The attempt on a copy of the board's arrays, and what is concluded: the board put together once, or refusal 8. The two stand in one
 // function, since each that hands on a board copies it. What the board shows already alters nothing, and a board that passes check 0 is
 // closed.
 fn decide(board: Board, stated: Stated, accepted: Answer) -> Entered
-    requires { ⌜ (passes board ≡ true) × Admissible (board .jobs) stated ⌝ }
+    requires { ⌜ (passes board ≡ true) × Storable (board .jobs) stated ⌝ }
     ensures { λ r. ⌜ r ≡ paper.concluded board accepted (rawOf board stated andThen closing.closure) ⌝ }
 {
     if is_shown(
@@ -81,8 +81,8 @@ pub fn enter(board: Board, entry: Entry) -> Entered
     requires { ⌜ passes board ≡ true ⌝ }
     ensures { λ r. ⌜ r ≡ paper.enter board (entryOf entry) ⌝ }
 {
-    match entry_gate(board.jobs, entry) {
-        Gate::Closed(refusal) => refused(refusal, board),
-        Gate::Open => decide(board, stated_by(entry), acceptance(board.jobs, entry)),
+    match entry_checks(board.jobs, entry) {
+        Checked::Met(refusal) => refused(refusal, board),
+        Checked::Unmet => decide(board, stated_by(entry), acceptance(board.jobs, entry)),
     }
 }

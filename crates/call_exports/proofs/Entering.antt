@@ -20,14 +20,14 @@ use Rattle.paper_board.specs.declared.Board.{Board}
 use Rattle.paper_entries.specs.declared.Entry as code
 use Rattle.paper_entries.specs.Paper.Entry.{Entry}
 use Rattle.paper_entries.specs.Paper.Enter.{enter}
-use Rattle.paper_entries.specs.Paper.Values.{entryOf}
+use Rattle.paper_entries.specs.Paper.EntryOf.{entryOf}
 use Rattle.call_in_place.proofs.Arguments.{Values, values}
 use Rattle.call_in_place.proofs.ByReference.{altering, Says, Said, Alters}
 use Rattle.call_in_place.proofs.Carried.{by-reference, Carried}
 use Rattle.call_in_place.proofs.Handed.{entry}
 use Rattle.call_in_place.proofs.Named as named
-use Rattle.call_reply_numbers.specs.declared.Reply.{Reply}
-use Rattle.call_reply_numbers.specs.Replies.{replied}
+use Rattle.call_reply_numbers.specs.declared.ReplyNumbers.{ReplyNumbers}
+use Rattle.call_reply_numbers.specs.ReplyNumbers.{replied}
 use Rattle.call_exports.proofs.Passing.{asked, enough, as-flagged}
 use Rattle.call_exports.proofs.Replied.{reply, both}
 use Rattle.call_exports.proofs.enter.Met as entered
@@ -38,14 +38,14 @@ module _ (passing : Bool) {m : ℕ} (cs : List (Carried m)) (stated : Values cs 
   abbrev Made : Values cs → code.Entry → Type 0
   Made z e = entryOf e ≡ stated z
 
-  abbrev Answered : Board → code.Entry → Reply → Board → Type 0
+  abbrev Answered : Board → code.Entry → ReplyNumbers → Board → Type 0
   Answered b e r d = both r d ≡ replied (enter b (entryOf e))
 
   module _ {M : Type 1} (𝓤 : URA M) where
     -- what a call says follows from the reply and the board of that entry
     abbrev pub Follows : Says cs (reply .Row) 𝓤 → Type 1
     Follows S =
-        (κs : Lfts (suc m)) (a : Args (altering cs (reply .Row) .signature) κs) (r : Reply) (d : Board)
+        (κs : Lfts (suc m)) (a : Args (altering cs (reply .Row) .signature) κs) (r : ReplyNumbers) (d : Board)
         → both r d ≡ replied (enter (now (a .0)) (stated (values by-reference κs cs (a .1))))
         → ent 𝓤 (emp 𝓤) (Said cs (reply .Row) 𝓤 S κs a r d)
 

@@ -6,7 +6,7 @@ use mathlib.Core.List.{List, [], _∷_}
 use mathlib.Core.Option.{none, some}
 use Prim.Native.Nat.{ℕ}
 use Rattle.paper_board.specs.declared.Board.{Board}
-use Rattle.paper_closure.specs.Check.{passes}
+use Rattle.paper_closure.specs.Passes.{passes}
 use Rattle.call_in_place.proofs.Arguments.{Values}
 use Rattle.call_in_place.proofs.Asked.{Asks, Holds}
 use Rattle.call_in_place.proofs.Carried.{Carried, value}

@@ -20,16 +20,16 @@ use Rattle.call_in_place.proofs.Called.{ByValue, arguments, calls, freely}
 use Rattle.call_in_place.proofs.Carried.{Carried, value}
 use Rattle.call_in_place.proofs.Handed.{answer}
 use Rattle.call_in_place.proofs.Plain.{Plain, struct}
-use Rattle.call_reply_numbers.specs.declared.Reply.{Reply}
-use Rattle.call_reply_numbers.specs.Replies.{Replied, entryReply}
-use Rattle.call_reply_numbers.proofs.Reply as R
-use Rattle.call_reply_numbers.proofs.Reply.Laws as R′
+use Rattle.call_reply_numbers.specs.declared.ReplyNumbers.{ReplyNumbers}
+use Rattle.call_reply_numbers.specs.ReplyNumbers.{Replied, replyNumbers}
+use Rattle.call_reply_numbers.proofs.ReplyNumbers as R
+use Rattle.call_reply_numbers.proofs.ReplyNumbers.Laws as R′
 
 abbrev pub reply : Plain
 reply = struct R.the-type R′.the-laws R′.the-plain R′.the-copy
 
 -- a reply and a board, as one
-abbrev pub both : Reply → Board → Replied
+abbrev pub both : ReplyNumbers → Board → Replied
 both r d = record { reply = r; board = d }
 
 module _ {M : Type 1} (𝓤 : URA M) (H : Heap 𝓤) (A : Atoms 𝓤) where
@@ -39,8 +39,8 @@ module _ {M : Type 1} (𝓤 : URA M) (H : Heap 𝓤) (A : Atoms 𝓤) where
   abbrev asks : Values taking → SProp 𝓤
   asks zs = emp 𝓤
 
-  abbrev ensures : Values taking → Reply → Type 0
-  ensures zs r = r ≡ entryReply (zs .0)
+  abbrev ensures : Values taking → ReplyNumbers → Type 0
+  ensures zs r = r ≡ replyNumbers (zs .0)
 
   abbrev pub ToReply : Contract 𝓤
   ToReply = ByValue taking (reply .Row) 𝓤 asks ensures H A
@@ -53,8 +53,8 @@ module _ {M : Type 1} (𝓤 : URA M) (H : Heap 𝓤) (A : Atoms 𝓤) where
         {q : Post 𝓤 H} {callee : Name} {xs : List Operand} {d : Place} {rest : Body}
         → K → FmC 𝓤 H (W .laws) C → Triple 𝓤 (C callee) ToReply → Is (answer .Row) a (answer .val a ∷ [])
         → Opds K W (raw asked ∷ Γ) E xs (answer .val a ∷ [])
-        → ((v : Val) → Is (reply .Row) (entryReply a) (v ∷ []) → Seq K W Γ (lands C Λ E d v rest q))
+        → ((v : Val) → Is (reply .Row) (replyNumbers a) (v ∷ []) → Seq K W Γ (lands C Λ E d v rest q))
         → Seq K W Γ (runs C Λ E (seq (call callee xs d) rest) q)
     replies t fm known is os k =
         freely t answer a is [] tt (id⊢ 𝓤 (emp 𝓤)) $ calls taking (reply .Row) 𝓤 asks ensures H A tt tt (a, tt) t fm known (id⊢ 𝓤 (emp 𝓤)) os
-        (λ r v e made. drop t $ drop t $ k v (subst (λ (x : Reply). Is (reply .Row) x (v ∷ [])) e made))
+        (λ r v e made. drop t $ drop t $ k v (subst (λ (x : ReplyNumbers). Is (reply .Row) x (v ∷ [])) e made))

@@ -44,13 +44,13 @@ use Rattle.call_in_place.proofs.Called.{ByValue, calls}
 use Rattle.call_in_place.proofs.Carried.{by-value, by-reference, Carried, value}
 use Rattle.call_in_place.proofs.Cells.{locals, count, past, copies, other, alloc-all, pass-all, free-all, look-all}
 use Rattle.call_in_place.proofs.Handed.{entered}
-use Rattle.call_reply_numbers.specs.Replies.{entryReply}
+use Rattle.call_reply_numbers.specs.ReplyNumbers.{replyNumbers}
 use Rattle.call_exports.proofs.Replied.{reply, ToReply, replies}
-use Rattle.call_reply_numbers.proofs.entry_reply.Met as reply-met
-use Rattle.call_reply_numbers.proofs.entry_reply.Symbol as entry-reply
+use Rattle.call_reply_numbers.proofs.reply_numbers.Met as reply-met
+use Rattle.call_reply_numbers.proofs.reply_numbers.Symbol as reply-numbers
 
 module _ {m : ℕ} (cs : List (Carried m)) (stated : Values cs → Entry) where
-  -- `let entered = callee(*board, ..); *board = entered.board; entry_reply(entered.answer)`
+  -- `let entered = callee(*board, ..); *board = entered.board; reply_numbers(entered.answer)`
   abbrev pub function : Name → Fn
   function callee = record {
     lifetimes = suc m;
@@ -63,7 +63,7 @@ module _ {m : ℕ} (cs : List (Carried m)) (stated : Values cs → Entry) where
         seq (assign (place (past cs 1) []) (rvOpd (copy (place 1 (deref B′.mir ∷ [])))))
         (seq (call callee (copy (place (past cs 1) []) ∷ copies cs 2) (place (past cs 0) []))
         (seq (assign (place 1 (deref B′.mir ∷ [])) (rvOpd (copy (place (past cs 0) (field 1 ∷ [])))))
-        (seq (call entry-reply.name (copy (place (past cs 0) (field 0 ∷ [])) ∷ []) (place 0 [])) return)));
+        (seq (call reply-numbers.name (copy (place (past cs 0) (field 0 ∷ [])) ∷ []) (place 0 [])) return)));
   }
 
   module _ (asks : Asks cs) {M : Type 1} (𝓤 : URA M) where
@@ -81,14 +81,14 @@ module _ {m : ℕ} (cs : List (Carried m)) (stated : Values cs → Entry) where
     Follows S =
         (κs : Lfts (suc m)) (a : Args (altering cs (reply .Row) .signature) κs) (e : Entered)
         → e ≡ paper.enter (now (a .0)) (stated (values by-reference κs cs (a .1)))
-        → ent 𝓤 (emp 𝓤) (Said cs (reply .Row) 𝓤 S κs a (entryReply (e .answer)) (e .board))
+        → ent 𝓤 (emp 𝓤) (Said cs (reply .Row) 𝓤 S κs a (replyNumbers (e .answer)) (e .board))
 
     module _ (H : Heap 𝓤) (A : Atoms 𝓤) where
       abbrev pub Enters : Contract 𝓤
       Enters = ByValue taking E.the-row 𝓤 requires ensures H A
 
       module _ (W : Given 𝓤 H A) (C : Calls 𝓤 H) (Λ : Loops 𝓤 H) (fm : FmC 𝓤 H (W .laws) C) (callee : Name)
-          (known : Triple 𝓤 (C callee) Enters) (known-reply : Triple 𝓤 (C entry-reply.name) (ToReply 𝓤 H A))
+          (known : Triple 𝓤 (C callee) Enters) (known-reply : Triple 𝓤 (C reply-numbers.name) (ToReply 𝓤 H A))
           (S : Says cs (reply .Row) 𝓤) (follows : Follows S) where
         walk : Walk cs (reply .Row) asks 𝓤 S H A W C Λ (function callee)
         walk κ κs q qs b o γ h a holds fits =
@@ -117,7 +117,7 @@ module _ {m : ℕ} (cs : List (Carried m)) (stated : Values cs → Entry) where
             (store-raw ! 1 refl (board-typed W (e .board) (entered .is-board e _ made))) $
             replies 𝓤 H A (e .answer) ! fm known-reply (entered .is-reply e _ made)
             (and-then ! (load ! (other ! by-reference cs bs _ 0 (fld ! refl (stop !))) (look-in ! 9 (sub ! 0 refl (whole !)))) (no-more !))
-            (λ w is-reply. land ! (from ! (stop !)) (init ! 12 refl (reply .typed 𝓤 H A W (entryReply (e .answer)) w is-reply)) $
+            (λ w is-reply. land ! (from ! (stop !)) (init ! 12 refl (reply .typed 𝓤 H A W (replyNumbers (e .answer)) w is-reply)) $
             owned ! B.the-row (Is B.the-row) (board .makes 𝓤 H A W) (e .board) _ (entered .is-board e _ made) $
             move ! (2 ∷ 0 ∷ 3 ∷ 4 ∷ 5 ∷ []) $ closes ! tt B.the-row (e .board) (board-val (e .board) ∷ []) b o $
             -- [obs; the borrow; the token; their tokens; the arguments; the board; …; what is given; …; _1; …; _0; …]
@@ -127,17 +127,17 @@ module _ {m : ℕ} (cs : List (Carried m)) (stated : Values cs → Entry) where
             move ! (6 ∷ 7 ∷ []) $ free1 ! $ move ! (4 ∷ 5 ∷ []) $ free1 ! $ free0 ! $
             keep ! (0 ∷ 1 ∷ 2 ∷ 3 ∷ []) $ feqI ! (List Val) (vptr b o ∷ []) (vptr b o ∷ []) refl $ fjoin3 ! $
             by ! (exits cs (reply .Row) asks 𝓤 S H A κ κs q qs b o γ h a W (reply .makes 𝓤 H A W)
-            (entryReply (e .answer)) (e .board) (follows (κ, κs) (pointer b o γ h, a) e is-entered) w is-reply))))))))))
+            (replyNumbers (e .answer)) (e .board) (follows (κ, κs) (pointer b o γ h, a) e is-entered) w is-reply))))))))))
 
   -- the law, as a function's proof cites it
   module _ (asks : Asks cs) {M : Type 1} (𝓤 : URA M) (H : Heap 𝓤) (𝓜 : Model 𝓤 H) (𝓖 : GhostRules 𝓤 H) (𝓡 : Running 𝓤 H 𝓜) where
     pub law : (S : Says cs (reply .Row) 𝓤) → Follows asks 𝓤 S → (env : Env) (name callee : Name) (routine : Routine)
         → Closed 𝓤 H (tables 𝓤 H 𝓜 𝓡 env .C) (tables 𝓤 H 𝓜 𝓡 env .Λ) name (function callee)
-        → env callee ≡ routine → env entry-reply.name ≡ entry-reply.routine
+        → env callee ≡ routine → env reply-numbers.name ≡ reply-numbers.routine
         → Triple 𝓤 (𝓡 .run routine) (Enters asks 𝓤 H (𝓖 .A))
         → Alters cs (reply .Row) asks 𝓤 S H (𝓖 .A) (𝓡 .run (env name))
     law S follows env name callee routine closed calls replies met =
         by-walk cs (reply .Row) asks 𝓤 S H 𝓜 𝓖 𝓡 env name (function callee) closed (λ fm.
         walk asks 𝓤 H (𝓖 .A) (givenOf 𝓤 H 𝓜 𝓖) (tables 𝓤 H 𝓜 𝓡 env .C) (tables 𝓤 H 𝓜 𝓡 env .Λ) fm callee
         (cited 𝓤 H (Enters asks 𝓤 H (𝓖 .A)) 𝓜 𝓡 env callee routine calls met)
-        (cited 𝓤 H (ToReply 𝓤 H (𝓖 .A)) 𝓜 𝓡 env entry-reply.name entry-reply.routine replies (reply-met.met 𝓤 H 𝓜 𝓖 𝓡)) S follows)
+        (cited 𝓤 H (ToReply 𝓤 H (𝓖 .A)) 𝓜 𝓡 env reply-numbers.name reply-numbers.routine replies (reply-met.met 𝓤 H 𝓜 𝓖 𝓡)) S follows)

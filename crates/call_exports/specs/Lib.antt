@@ -1,2 +1,2 @@
 -- Who may go on calling without check 0.
-pub mod Passing
+pub mod LeftPasses

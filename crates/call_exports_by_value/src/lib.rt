@@ -1,24 +1,24 @@
 // The calls by value, with replies in numbers but for the entries; check 0 is among their checks, unless an entry's board is known
 // to pass it.
 use call_dock::Dock;
-use call_reply_numbers::PairReply;
-use call_reply_numbers::PlanReply;
-use call_reply_numbers::RowReply;
-use call_reply_numbers::pair_reply;
-use call_reply_numbers::plan_reply;
-use call_reply_numbers::row_reply;
+use call_reply_numbers::PairReplyNumbers;
+use call_reply_numbers::PlanReplyNumbers;
+use call_reply_numbers::RowReplyNumbers;
+use call_reply_numbers::pair_reply_numbers;
+use call_reply_numbers::plan_reply_numbers;
+use call_reply_numbers::row_reply_numbers;
 use paper_board::Board;
 use paper_board::Refusal;
 use paper_entries::Entered;
 use paper_entries::Entry;
 ghost use mathlib.Core.Path.{_≡_};
 ghost use mathlib.Core.Bool.{true};
-ghost use Rattle.paper_closure.specs.Check as check;
+ghost use Rattle.paper_closure.specs.Passes as check;
 ghost use Rattle.paper_entries.specs.Paper.Enter as paper;
 ghost use Rattle.paper_entries.specs.Paper.Looking as looking;
-ghost use Rattle.paper_entries.specs.Paper.Values.{entryOf};
+ghost use Rattle.paper_entries.specs.Paper.EntryOf.{entryOf};
 ghost use Rattle.paper_plans.specs.Paper.Planner as planning;
-ghost use Rattle.call_reply_numbers.specs.Replies.{rowReply, pairReply, planReply};
+ghost use Rattle.call_reply_numbers.specs.ReplyNumbers.{rowReplyNumbers, pairReplyNumbers, planReplyNumbers};
 
 pub mod unchecked;
 
@@ -41,20 +41,20 @@ pub fn enter(board: Board, entry: Entry, passing: bool) -> Entered
     }
 }
 
-pub fn row(dock: Dock, job: i32) -> RowReply
-    ensures { λ r. ⌜ r ≡ rowReply (looking.row (dock .board) job) ⌝ }
+pub fn row(dock: Dock, job: i32) -> RowReplyNumbers
+    ensures { λ r. ⌜ r ≡ rowReplyNumbers (looking.row (dock .board) job) ⌝ }
 {
-    row_reply(dock.row(job))
+    row_reply_numbers(dock.row(job))
 }
 
-pub fn pair(dock: Dock, a: i32, b: i32) -> PairReply
-    ensures { λ r. ⌜ r ≡ pairReply (looking.pair (dock .board) a b) ⌝ }
+pub fn pair(dock: Dock, a: i32, b: i32) -> PairReplyNumbers
+    ensures { λ r. ⌜ r ≡ pairReplyNumbers (looking.pair (dock .board) a b) ⌝ }
 {
-    pair_reply(dock.pair(a, b))
+    pair_reply_numbers(dock.pair(a, b))
 }
 
-pub fn plan(dock: Dock, budget: i32) -> PlanReply
-    ensures { λ r. ⌜ r ≡ planReply (planning.plan (dock .board) budget) ⌝ }
+pub fn plan(dock: Dock, budget: i32) -> PlanReplyNumbers
+    ensures { λ r. ⌜ r ≡ planReplyNumbers (planning.plan (dock .board) budget) ⌝ }
 {
-    plan_reply(dock.plan(budget))
+    plan_reply_numbers(dock.plan(budget))
 }

@@ -132,7 +132,7 @@ module _ {m : ℕ} (cs : List (Carried m)) (R : RattleType) (asks : Asks cs) (Q 
     OfDock = ByValue (value dock ∷ cs) R 𝓤 Asked OfBoard H A
 
     module _ (κs : Lfts m) (qs : Shares m) (h : Board) (zs : Values cs) where
-      abbrev pub to-dock : OfDock .Ghost
+      abbrev to-dock : OfDock .Ghost
       to-dock = arguments (value dock ∷ cs) R 𝓤 Asked OfBoard H A κs qs (holding h, zs)
 
       pub dock-calls : {K : Type 0} {W : Given 𝓤 H A} {Γ : List (Item 𝓤)} {C : Calls 𝓤 H} {Λ : Loops 𝓤 H} {E : Env 𝓤 H}

@@ -41,7 +41,7 @@ module _ {m : ℕ} where
   copies (c ∷ cs) k = copy (place k []) ∷ copies cs (suc k)
 
   -- In memory: a block for each.
-  abbrev pub Blocks : List (Carried m) → Type 0
+  abbrev Blocks : List (Carried m) → Type 0
   Blocks [] = Unit {0}
   Blocks (c ∷ cs) = ℕ × Blocks cs
 
@@ -51,7 +51,7 @@ module _ {m : ℕ} {M : Type 1} {𝓤 : URA M} (H : Heap 𝓤) (p : Mode) where
   among [] bs E = E
   among (c ∷ cs) bs E = (c .ty p, bs .0) ∷ among cs (bs .1) E
 
-  abbrev pub Rooms : (cs : List (Carried m)) → Blocks cs → SProp 𝓤
+  abbrev Rooms : (cs : List (Carried m)) → Blocks cs → SProp 𝓤
   Rooms [] bs = emp 𝓤
   Rooms (c ∷ cs) bs = sep 𝓤 (H .room (c .ty p) (bs .0) zero) (sep 𝓤 (H .dies (c .ty p) (bs .0)) (Rooms cs (bs .1)))
 

@@ -104,7 +104,7 @@ module _ {m : ℕ} (cs : List (Carried m)) (R : Plain) where
         → ent 𝓤 (emp 𝓤) (S κs a tt r (atExit looking κs a (tt, unsaid by-reference κs cs (a .1))))
 
     module _ (H : Heap 𝓤) (A : Atoms 𝓤) where
-      abbrev pub Looks : Fun 𝓤 → Type 1
+      abbrev Looks : Fun 𝓤 → Type 1
       Looks run = Meets 𝓤 H A (looking .signature) run (closing 𝓤 H A looking looked)
 
       module _ (W : Given 𝓤 H A) (follows : Follows) (κ : Lft) (κs : Lfts m) (q : Share) (qs : Shares m) (b o : ℕ) (γ : GName)

@@ -66,7 +66,7 @@ module _ {m : ℕ} (cs : List (Carried m)) (X R : Plain) (fs : List Bool) where
   made-with = value X ∷ flags fs
 
   -- what the function asks is enough for what the call asks
-  abbrev pub Enough : Asks cs → Asks made-with → (Values cs → X .Row .Denot → Type 0) → Type 0
+  abbrev Enough : Asks cs → Asks made-with → (Values cs → X .Row .Denot → Type 0) → Type 0
   Enough asks call-asks Made =
       (h : Board) (zs : Values cs) (x : X .Row .Denot)
       → Holds cs asks h zs → Made zs x → Holds made-with call-asks h (x, flag-values fs)

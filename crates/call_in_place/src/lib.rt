@@ -11,7 +11,7 @@ ghost use mathlib.Core.Path.{_≡_};
 ghost use Rattle.paper_entries.specs.Paper.Entry as entry;
 ghost use Rattle.paper_entries.specs.Paper.Enter as paper;
 ghost use Rattle.paper_entries.specs.Paper.Looking as looking;
-ghost use Rattle.paper_entries.specs.Paper.Values.{entryOf};
+ghost use Rattle.paper_entries.specs.Paper.EntryOf.{entryOf};
 ghost use Rattle.paper_plans.specs.Paper.Planner as planning;
 
 // An entry of any sort.

@@ -1,7 +1,7 @@
 // "Pair of A, B: 0 no arc, 1 A to B, 2 B to A, 3 both; and the gap": on a board that has passed check 0.
-use call_checks::Gate;
+use call_checks::Checked;
 use call_checks::index;
-use call_checks::pair_gate;
+use call_checks::pair_checks;
 use paper_board::Board;
 use paper_entries::PairAnswer;
 ghost use mathlib.Core.Path.{_≡_};
@@ -11,7 +11,7 @@ ghost use lib.Dec.{eqb, ltb};
 ghost use lib.IntN.{_-ℤ_};
 ghost use Rattle.paper_board.specs.Paper.Limits.{Within, jobLimit};
 ghost use Rattle.paper_board.specs.Paper.View.{rowOf};
-ghost use Rattle.paper_closure.specs.Check.{passes};
+ghost use Rattle.paper_closure.specs.Passes.{passes};
 ghost use Rattle.paper_entries.specs.Paper.Looking as looking;
 
 // "0 no arc, 1 A to B, 2 B to A, 3 both"
@@ -68,8 +68,8 @@ pub fn pair(board: Board, a: i32, b: i32) -> PairAnswer
     requires { ⌜ passes board ≡ true ⌝ }
     ensures { λ r. ⌜ r ≡ looking.pair board a b ⌝ }
 {
-    match pair_gate(board.jobs, a, b) {
-        Gate::Closed(refusal) => PairAnswer::Refused(refusal),
-        Gate::Open => shown_pair(board, index(a), index(b)),
+    match pair_checks(board.jobs, a, b) {
+        Checked::Met(refusal) => PairAnswer::Refused(refusal),
+        Checked::Unmet => shown_pair(board, index(a), index(b)),
     }
 }

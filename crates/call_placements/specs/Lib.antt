@@ -1,5 +1,5 @@
 -- What the planner's loop keeps: the jobs placed, those left to be tried, and their starts.
-pub mod Rest
+pub mod Stack
 pub mod Waiting
-pub mod Loop
+pub mod PlannerState
 pub mod Starts

@@ -13,8 +13,8 @@ use Rattle.paper_rules.specs.Paper.Rules.{E, L}
 use Rattle.paper_board.specs.Paper.View.{view}
 use Rattle.paper_plans.specs.Paper.Planner.{startList}
 use Rattle.paper_plans.specs.Paper.Tries.{startAfter, inTime}
-use Rattle.call_placements.specs.Rest.{stack}
-use Rattle.call_placements.specs.Loop.{FreeFrom, at, free-at-first, free-after}
+use Rattle.call_placements.specs.Stack.{stack}
+use Rattle.call_placements.specs.PlannerState.{FreeFrom, at, free-at-first, free-after}
 
 module _ (b : Board) where
   -- the starts of the first k jobs, and the minute from which the dock is free after them

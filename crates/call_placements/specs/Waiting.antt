@@ -18,16 +18,16 @@ use Rattle.ground_arithmetic.specs.Bools.{is-true, is-false, refuted, and-parts
 use Rattle.paper_board.specs.declared.Board.{Board}
 use Rattle.paper_board.specs.Paper.View.{view, Arc}
 use Rattle.paper_board.specs.Paper.Limits.{Within}
-use Rattle.paper_board.specs.Tests.Decides.{Decides, holds, restated, retested, same-decision, negated, _and_, eq}
+use Rattle.paper_board.specs.BoardTests.Decides.{Decides, holds, restated, retested, same-decision, negated, _and_, eq}
 use Rattle.paper_board.specs.Paper.Tests.{valid}
-use Rattle.paper_board.specs.Tests.Live.{valid-yes}
+use Rattle.paper_board.specs.BoardTests.Live.{valid-yes}
 use Rattle.paper_plans.specs.Paper.Lists.{range, among}
 use Rattle.paper_plans.specs.Paper.Planner.{validJobs}
 use Rattle.paper_plans.specs.Paper.Tries.{ready, unplaced}
 use Rattle.paper_plans.specs.ListLaws.{among-first, among-rest, keep-same, keep-keep, none-kept, lowest-first}
 use Rattle.paper_plans.specs.PlanLaws.{valid-among, valid-distinct}
 use Rattle.paper_plans.specs.Unplaced.{ready-is, one-placed, all-placed}
-use Rattle.call_placements.specs.Rest.{members}
+use Rattle.call_placements.specs.Stack.{members}
 
 module _ (b : Board) where
   -- the jobs to be tried, in their order
@@ -76,7 +76,7 @@ module _ (b : Board) where
   count-placed j ps waits = one-placed (view b) order ps (valid-distinct (view b)) j (order-is j .show (waits .0)) (waits .1)
 
   -- where none waits, all valid jobs are placed
-  pub none-waits : (ps : List ℕ) → waitingCount ps ≡ 0 → (k : ℕ) → Waiting ps k → ⊥
+  none-waits : (ps : List ℕ) → waitingCount ps ≡ 0 → (k : ℕ) → Waiting ps k → ⊥
   none-waits ps e k waits = refuted (waits .1) (all-placed (view b) order ps e k (order-is k .show (waits .0)))
 
   -- where the word is not empty, some job waits

@@ -11,8 +11,8 @@ ghost use Rattle.ground_sets.specs.Bit.{intersection};
 ghost use Rattle.paper_board.specs.Paper.Limits.{Within, jobLimit};
 ghost use Rattle.paper_board.specs.Paper.View.{view};
 ghost use Rattle.paper_plans.specs.Paper.Planner as paper;
-ghost use Rattle.call_placements.specs.Rest.{stack};
-ghost use Rattle.call_placements.specs.Loop.{at, Timely};
+ghost use Rattle.call_placements.specs.Stack.{stack};
+ghost use Rattle.call_placements.specs.PlannerState.{at, EndInTime};
 
 // An answer without a plan.
 pub fn unplanned(answer: PlanAnswer) -> Planned
@@ -35,7 +35,7 @@ pub fn places(before: u64, unplaced: u64, end: i32, latest: i32) -> bool
 // The starts of the first `count` jobs, placed in their order: "the later of E and the end of the job placed before, or E where none
 // is". Before any job the dock counts as free from the first minute on.
 fn starts(board: Board, jobs: [usize; Board::JOBS], count: usize) -> [i32; Board::JOBS]
-    requires { ⌜ Within board × (count ≤ jobLimit) × Timely board jobs count ⌝ }
+    requires { ⌜ Within board × (count ≤ jobLimit) × EndInTime board jobs count ⌝ }
     ensures { λ r. ⌜ r ≡ paper.startList (view board) (stack (at jobs) count) ⌝ }
 {
     let mut starts = [0; Board::JOBS];
@@ -57,7 +57,7 @@ pub fn found(
     valid: u64,
     tries: u32,
 ) -> Planned
-    requires { ⌜ Within board × (count ≤ jobLimit) × Timely board jobs count ⌝ }
+    requires { ⌜ Within board × (count ≤ jobLimit) × EndInTime board jobs count ⌝ }
     ensures { λ r. ⌜ r ≡ record { answer = PlanAnswer.Found tries; placed = valid; starts = paper.startList (view board) (stack (at jobs) count) } ⌝ }
 {
     Planned {

@@ -16,15 +16,15 @@ use Rattle.paper_board.specs.declared.Board.{Board}
 use Rattle.paper_board.specs.Paper.View.{view}
 use Rattle.paper_board.specs.Paper.Limits.{Within, firstMinute, jobLimit}
 use Rattle.paper_rules.specs.Paper.Rules.{L}
-use Rattle.paper_board.specs.Tests.Decides.{holds, restated, retested}
+use Rattle.paper_board.specs.BoardTests.Decides.{holds, restated, retested}
 use Rattle.paper_board.specs.Paper.Tests.{valid}
 use Rattle.paper_plans.specs.Paper.Tries.{startAfter, inTime, ready, search}
 use Rattle.paper_plans.specs.ListLaws.{none-among}
-use Rattle.paper_plans.specs.OutcomeLaws.{add-zero, orElse-none}
+use Rattle.paper_plans.specs.EndingLaws.{add-zero, orElse-none}
 use Rattle.paper_plans.specs.Unplaced.{none-placed}
-use Rattle.call_placements.specs.Rest.{stack, stack-same, here, back, back-same, search-here, tried-all, not-placed, placed}
+use Rattle.call_placements.specs.Stack.{stack, stack-same, here, back, back-same, search-here, tried-all, not-placed, placed}
 use Rattle.call_placements.specs.Waiting.{order, Waiting, WaitingWord, waiting-members, least-first, no-members, waiting-placed, waiting-back, waitingCount, count-placed, some-waits}
-use Rattle.call_placements.specs.Loop.{free-at-first, free-after, Placement, at, timeAt, Placements, outcome, State}
+use Rattle.call_placements.specs.PlannerState.{free-at-first, free-after, Placement, at, timeAt, Placements, ending, PlannerState}
 
 module _ (b : Board) (h : Within b) where
   -- at the start no job is placed
@@ -33,7 +33,7 @@ module _ (b : Board) (h : Within b) where
     all-wait k = retested (valid-word k) (restated (holds (valid (view b) k)) (λ e. (e, none-among k)) (λ p. p .0))
 
     pub at-start : (budget : ℕ)
-        → State b (replicate jobLimit 0) (replicate jobLimit 0) (replicate jobLimit (pos 0)) 0 w w firstMinute 0 budget
+        → PlannerState b (replicate jobLimit 0) (replicate jobLimit 0) (replicate jobLimit (pos 0)) 0 w w firstMinute 0 budget
     unfolding stack back
     at-start budget =
         let v = view b in
@@ -55,10 +55,10 @@ module _ (b : Board) (h : Within b) where
         }
 
   module _ (jobs lefts : List ℕ) (frees : List ℤ) (depth w left : ℕ) (free : ℤ) (t budget : ℕ)
-      (s : State b jobs lefts frees depth w left free t budget) (waits : w ≢ 0) where
+      (s : PlannerState b jobs lefts frees depth w left free t budget) (waits : w ≢ 0) where
     -- a placing is taken back
     pub taken-back : left ≡ 0 → (d : ℕ) → depth ≡ suc d
-        → State b jobs lefts frees d (with w (at jobs d)) (at lefts d) (timeAt frees d) t budget
+        → PlannerState b jobs lefts frees d (with w (at jobs d)) (at lefts d) (timeAt frees d) t budget
     unfolding stack back
     taken-back none-left d e =
         let v = view b in
@@ -66,7 +66,7 @@ module _ (b : Board) (h : Within b) where
         let s′ = rw (e, none-left) at s in
         let last = s′ .placements d (omega arith) in
         let (n, count) = some-waits b w (stack (at jobs) (suc d)) (s′ .waiting) waits in
-        let now = tried-all v o (outcome b) t n (stack (at jobs) (suc d)) 0 _ (rw count at (s′ .so-far)) (no-members b) in
+        let now = tried-all v o (ending b) t n (stack (at jobs) (suc d)) 0 _ (rw count at (s′ .so-far)) (no-members b) in
         record {
           jobs-shape = s .jobs-shape;
           lefts-shape = s .lefts-shape;
@@ -90,14 +90,14 @@ module _ (b : Board) (h : Within b) where
 
       -- it places no job
       pub tried-in-vain : (ready (view b) (order b) (stack (at jobs) depth) j && inTime (view b) (stack (at jobs) depth) j) ≡ false
-          → State b jobs lefts frees depth w rest free (t + 1) budget
+          → PlannerState b jobs lefts frees depth w rest free (t + 1) budget
       tried-in-vain fails =
           let v = view b in
           let o = order b in
           let ps = stack (at jobs) depth in
           let (n, count) = some-waits b w ps (s .waiting) waits in
           let next = least-first b ps (s .untried) taken in
-          let now = not-placed v o (outcome b) t n ps left _ (rw count at (s .so-far)) j rest next fails in
+          let now = not-placed v o (ending b) t n ps left _ (rw count at (s .so-far)) j rest next fails in
           record {
             jobs-shape = s .jobs-shape;
             lefts-shape = s .lefts-shape;
@@ -167,7 +167,7 @@ module _ (b : Board) (h : Within b) where
                 )
                 (s .placements d before)
 
-        pub job-placed : State b jobs′ lefts′ (set frees depth free) (depth + 1) (without width w j) (without width w j) finish (t + 1) budget
+        pub job-placed : PlannerState b jobs′ lefts′ (set frees depth free) (depth + 1) (without width w j) (without width w j) finish (t + 1) budget
         unfolding back
         job-placed =
             let v = view b in
@@ -175,7 +175,7 @@ module _ (b : Board) (h : Within b) where
             let ps = stack (at jobs) depth in
             let w′ = without width w j in
             let (n, count) = some-waits b w ps (s .waiting) waits in
-            let now = placed v o (outcome b) t n ps left _ (rw count at (s .so-far)) j rest
+            let now = placed v o (ending b) t n ps left _ (rw count at (s .so-far)) j rest
             (least-first b ps (s .untried) taken) places in
             let wait : WaitingWord b w′ (j ∷ ps) = waiting-placed b h w j ps (s .waiting) due in
             let counted : waitingCount b (j ∷ ps) ≡ n = omega (arith, count-placed b j ps due, count) in

@@ -1,6 +1,6 @@
 // "Planner": the tries over the valid jobs in ascending number, on a board that has passed check 0.
-use call_checks::Gate;
-use call_checks::budget_gate;
+use call_checks::Checked;
+use call_checks::budget_check;
 use call_checks::budget_value;
 use call_placements::found;
 use call_placements::places;
@@ -13,7 +13,7 @@ ghost use mathlib.Core.Path.{_≡_};
 ghost use mathlib.Core.Bool.{true};
 ghost use Rattle.paper_board.specs.Paper.Limits.{Within};
 ghost use Rattle.paper_board.specs.Paper.View.{view};
-ghost use Rattle.paper_closure.specs.Check.{passes};
+ghost use Rattle.paper_closure.specs.Passes.{passes};
 ghost use Rattle.engine_marks.specs.Marked as sets;
 ghost use Rattle.paper_plans.specs.Paper.Planner as paper;
 ghost use Rattle.paper_plans.specs.Paper.Tries as definition;
@@ -22,7 +22,7 @@ ghost use Rattle.paper_plans.specs.Paper.Tries as definition;
 // free from minute `free` on. `lefts` and `frees` hold what a placing taken back comes back to.
 fn search(board: Board, valid: u64, budget: u32) -> Planned
     requires { ⌜ Within board × (valid ≡ sets.marked (board .jobs) (board .marks) 1) ⌝ }
-    ensures { λ r. ⌜ r ≡ paper.answer (view board) budget (definition.tries (view board) (paper.validJobs (view board))) ⌝ }
+    ensures { λ r. ⌜ r ≡ paper.plannedWithin (view board) budget (definition.tries (view board) (paper.validJobs (view board))) ⌝ }
 {
     let mut jobs = [0; Board::JOBS];
     let mut lefts = [0; Board::JOBS];
@@ -69,9 +69,9 @@ pub fn plan(board: Board, budget: i32) -> Planned
     requires { ⌜ passes board ≡ true ⌝ }
     ensures { λ r. ⌜ r ≡ paper.plan board budget ⌝ }
 {
-    match budget_gate(budget) {
-        Gate::Closed(refusal) => unplanned(PlanAnswer::Refused(refusal)),
-        Gate::Open => search(
+    match budget_check(budget) {
+        Checked::Met(refusal) => unplanned(PlanAnswer::Refused(refusal)),
+        Checked::Unmet => search(
             board,
             marked(board.jobs, &board.marks, Board::VALID),
             budget_value(budget),

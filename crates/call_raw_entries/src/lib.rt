@@ -16,14 +16,14 @@ ghost use Rattle.paper_board.specs.declared.Board as boards;
 ghost use Rattle.paper_board.specs.Paper.Limits.{jobLimit, Within};
 ghost use Rattle.paper_board.specs.Paper.Facts.{Known};
 ghost use Rattle.paper_board.specs.Paper.Values.{factOf};
-ghost use Rattle.paper_rules.specs.Update.Filled.{filled, ArraysWithin, Alters};
-ghost use Rattle.engine_updates.specs.Applicable.{Timely};
+ghost use Rattle.paper_rules.specs.Update.ArraysWithin.{filled, ArraysWithin, Alters};
+ghost use Rattle.engine_updates.specs.Applicable.{Applicable};
 ghost use Rattle.paper_entries.specs.Paper.Enter.{updateAll};
-ghost use Rattle.call_statements.specs.Stated.{rawOf, jobsWith, Admissible, Placed, States};
+ghost use Rattle.call_statements.specs.Stated.{rawOf, jobsWith, Storable, HavePlaces, States};
 
 // The number of jobs with what is stated.
 pub fn jobs_with(jobs: usize, stated: Stated) -> usize
-    requires { ⌜ Admissible jobs stated × (jobs ≤ jobLimit) ⌝ }
+    requires { ⌜ Storable jobs stated × (jobs ≤ jobLimit) ⌝ }
     ensures { λ r. ⌜ r ≡ jobsWith jobs stated ⌝ }
 {
     match stated {
@@ -41,7 +41,7 @@ pub fn is_shown<'a>(
     after: &'a [u64; Board::JOBS],
     stated: Stated,
 ) -> bool
-    requires { ⌜ Placed stated ⌝ }
+    requires { ⌜ HavePlaces stated ⌝ }
     ensures { λ r. ⌜ ((b : boards.Board) → Within (filled b (b .lengths) (now (earliest .entry)) (now (latest .entry)) (now (marks .entry)) (now (after .entry)) (b .before)) → r ≡ true → rawOf (filled b (b .lengths) (now (earliest .entry)) (now (latest .entry)) (now (marks .entry)) (now (after .entry)) (b .before)) stated ≡ some (filled b (b .lengths) (now (earliest .entry)) (now (latest .entry)) (now (marks .entry)) (now (after .entry)) (b .before))) ⌝ }
 {
     match stated {
@@ -66,7 +66,7 @@ fn update_both(
     first: Fact,
     second: Fact,
 ) -> bool
-    requires { ⌜ ArraysWithin jobs (now lengths) (now earliest) (now latest) (now marks) (now after) (now before) × Known jobs (factOf first) × Timely first × Known jobs (factOf second) × Timely second ⌝ }
+    requires { ⌜ ArraysWithin jobs (now lengths) (now earliest) (now latest) (now marks) (now after) (now before) × Known jobs (factOf first) × Applicable first × Known jobs (factOf second) × Applicable second ⌝ }
     ensures { λ r. ⌜ Alters jobs (λ b. updateAll b (factOf first ∷ factOf second ∷ [])) (now (lengths .entry)) (now (earliest .entry)) (now (latest .entry)) (now (marks .entry)) (now (after .entry)) (now (before .entry)) r (now (lengths .exit)) (now (earliest .exit)) (now (latest .exit)) (now (marks .exit)) (now (after .exit)) (now (before .exit)) ⌝ }
 {
     if !update(jobs, lengths, earliest, latest, marks, after, before, first) {
@@ -95,7 +95,7 @@ pub fn state(
     before: &mut [u64; Board::JOBS],
     stated: Stated,
 ) -> bool
-    requires { ⌜ ArraysWithin jobs (now lengths) (now earliest) (now latest) (now marks) (now after) (now before) × Admissible jobs stated ⌝ }
+    requires { ⌜ ArraysWithin jobs (now lengths) (now earliest) (now latest) (now marks) (now after) (now before) × Storable jobs stated ⌝ }
     ensures { λ r. ⌜ States stated jobs (now (lengths .entry)) (now (earliest .entry)) (now (latest .entry)) (now (marks .entry)) (now (after .entry)) (now (before .entry)) r (now (lengths .exit)) (now (earliest .exit)) (now (latest .exit)) (now (marks .exit)) (now (after .exit)) (now (before .exit)) ⌝ }
 {
     match stated {
@@ -135,7 +135,7 @@ pub fn due_to<'a>(
     before: &'a [u64; Board::JOBS],
     stated: Stated,
 ) -> Agenda
-    requires { ⌜ Admissible jobs stated × (jobs ≤ jobLimit) ⌝ }
+    requires { ⌜ Storable jobs stated × (jobs ≤ jobLimit) ⌝ }
 {
     match stated {
         Stated::Row { .. } => added(jobs),

@@ -6,18 +6,18 @@ use paper_entries::RowAnswer;
 use paper_plans::PlanAnswer;
 use paper_plans::Planned;
 ghost use mathlib.Core.Path.{_≡_};
-ghost use Rattle.call_reply_numbers.specs.Replies as said;
+ghost use Rattle.call_reply_numbers.specs.ReplyNumbers as said;
 
 // To an entry. Accepted: the number of the job added, or 0 where nothing was added. Otherwise the refusal's number.
 #[repr(C)]
-pub struct Reply {
+pub struct ReplyNumbers {
     pub accepted: bool,
     pub number: u64,
 }
 
 // To a row: where it is not accepted, the refusal's number, and 0 in the rest.
 #[repr(C)]
-pub struct RowReply {
+pub struct RowReplyNumbers {
     pub accepted: bool,
     pub refusal: u32,
     pub mark: u8,
@@ -29,7 +29,7 @@ pub struct RowReply {
 
 // To a pair: where it is not accepted, the refusal's number, and 0 in the rest.
 #[repr(C)]
-pub struct PairReply {
+pub struct PairReplyNumbers {
     pub accepted: bool,
     pub refusal: u32,
     pub arcs: u8,
@@ -39,34 +39,34 @@ pub struct PairReply {
 // To a plan: found (0), none (1) or spent (2) with the number of tries, or refused (3) with the refusal's number. The placed jobs
 // are a word, bit k for job k; their starts are in the places of the jobs.
 #[repr(C)]
-pub struct PlanReply {
+pub struct PlanReplyNumbers {
     pub ending: u8,
     pub number: u32,
     pub placed: u64,
     pub starts: [i32; Board::JOBS],
 }
 
-pub fn entry_reply(answer: Answer) -> Reply
-    ensures { λ r. ⌜ r ≡ said.entryReply answer ⌝ }
+pub fn reply_numbers(answer: Answer) -> ReplyNumbers
+    ensures { λ r. ⌜ r ≡ said.replyNumbers answer ⌝ }
 {
     match answer {
-        Answer::Added(job) => Reply {
+        Answer::Added(job) => ReplyNumbers {
             accepted: true,
             number: job as u64,
         },
-        Answer::Accepted => Reply {
+        Answer::Accepted => ReplyNumbers {
             accepted: true,
             number: 0,
         },
-        Answer::Refused(refusal) => Reply {
+        Answer::Refused(refusal) => ReplyNumbers {
             accepted: false,
             number: refusal.number() as u64,
         },
     }
 }
 
-pub fn row_reply(row: RowAnswer) -> RowReply
-    ensures { λ r. ⌜ r ≡ said.rowReply row ⌝ }
+pub fn row_reply_numbers(row: RowAnswer) -> RowReplyNumbers
+    ensures { λ r. ⌜ r ≡ said.rowReplyNumbers row ⌝ }
 {
     match row {
         RowAnswer::Row {
@@ -75,7 +75,7 @@ pub fn row_reply(row: RowAnswer) -> RowReply
             latest,
             before,
             after,
-        } => RowReply {
+        } => RowReplyNumbers {
             accepted: true,
             refusal: 0,
             mark,
@@ -84,7 +84,7 @@ pub fn row_reply(row: RowAnswer) -> RowReply
             before,
             after,
         },
-        RowAnswer::Refused(refusal) => RowReply {
+        RowAnswer::Refused(refusal) => RowReplyNumbers {
             accepted: false,
             refusal: refusal.number(),
             mark: 0,
@@ -96,17 +96,17 @@ pub fn row_reply(row: RowAnswer) -> RowReply
     }
 }
 
-pub fn pair_reply(pair: PairAnswer) -> PairReply
-    ensures { λ r. ⌜ r ≡ said.pairReply pair ⌝ }
+pub fn pair_reply_numbers(pair: PairAnswer) -> PairReplyNumbers
+    ensures { λ r. ⌜ r ≡ said.pairReplyNumbers pair ⌝ }
 {
     match pair {
-        PairAnswer::Pair { arcs, gap } => PairReply {
+        PairAnswer::Pair { arcs, gap } => PairReplyNumbers {
             accepted: true,
             refusal: 0,
             arcs,
             gap,
         },
-        PairAnswer::Refused(refusal) => PairReply {
+        PairAnswer::Refused(refusal) => PairReplyNumbers {
             accepted: false,
             refusal: refusal.number(),
             arcs: 0,
@@ -115,8 +115,8 @@ pub fn pair_reply(pair: PairAnswer) -> PairReply
     }
 }
 
-fn ending(answer: PlanAnswer) -> u8
-    ensures { λ r. ⌜ r ≡ said.ending answer ⌝ }
+fn ending_number(answer: PlanAnswer) -> u8
+    ensures { λ r. ⌜ r ≡ said.endingNumber answer ⌝ }
 {
     match answer {
         PlanAnswer::Found(_) => 0,
@@ -137,13 +137,13 @@ fn plan_number(answer: PlanAnswer) -> u32
     }
 }
 
-pub fn plan_reply(planned: Planned) -> PlanReply
-    ensures { λ r. ⌜ r ≡ said.planReply planned ⌝ }
+pub fn plan_reply_numbers(planned: Planned) -> PlanReplyNumbers
+    ensures { λ r. ⌜ r ≡ said.planReplyNumbers planned ⌝ }
 {
     let answer = planned.answer;
     let starts = planned.starts;
-    PlanReply {
-        ending: ending(answer),
+    PlanReplyNumbers {
+        ending: ending_number(answer),
         number: plan_number(answer),
         placed: planned.placed,
         starts,

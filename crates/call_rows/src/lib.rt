@@ -1,14 +1,14 @@
 // "Row of a job: mark, E, D, the set before it and the set after it.": on a board that has passed check 0.
-use call_checks::Gate;
+use call_checks::Checked;
 use call_checks::index;
-use call_checks::job_gate;
+use call_checks::job_check;
 use paper_board::Board;
 use paper_entries::RowAnswer;
 ghost use mathlib.Core.Path.{_≡_};
 ghost use mathlib.Core.Bool.{true};
 ghost use Prim.Native.Nat.{_<_};
 ghost use Rattle.paper_board.specs.Paper.Limits.{jobLimit};
-ghost use Rattle.paper_closure.specs.Check.{passes};
+ghost use Rattle.paper_closure.specs.Passes.{passes};
 ghost use Rattle.paper_entries.specs.Paper.Looking as looking;
 
 fn shown_row(board: Board, job: usize) -> RowAnswer
@@ -28,8 +28,8 @@ pub fn row(board: Board, job: i32) -> RowAnswer
     requires { ⌜ passes board ≡ true ⌝ }
     ensures { λ r. ⌜ r ≡ looking.row board job ⌝ }
 {
-    match job_gate(board.jobs, job) {
-        Gate::Closed(refusal) => RowAnswer::Refused(refusal),
-        Gate::Open => shown_row(board, index(job)),
+    match job_check(board.jobs, job) {
+        Checked::Met(refusal) => RowAnswer::Refused(refusal),
+        Checked::Unmet => shown_row(board, index(job)),
     }
 }

@@ -13,22 +13,22 @@ use Rattle.paper_board.specs.Paper.View as Rows
 use Rattle.paper_board.specs.Paper.Limits.{jobLimit, Fits, Within}
 use Rattle.paper_board.specs.Paper.Parts.{withJobs}
 use Rattle.paper_board.specs.Paper.Values.{factOf}
-use Rattle.paper_rules.specs.Update.Filled.{filled, possibly, ArraysWithin, Alters}
+use Rattle.paper_rules.specs.Update.ArraysWithin.{filled, possibly, ArraysWithin, Alters}
 use Rattle.paper_rules.specs.Update.Updates.{append, update, _andThen_}
 use Rattle.paper_rules.specs.Update.Extension.{Extends, HasRow, Updated}
 use Rattle.paper_rules.specs.Update.Appended.{appended}
 use Rattle.paper_rules.specs.Update.Updated.{updated}
-use Rattle.engine_updates.specs.Applicable.{Timely}
-use Rattle.paper_rules.specs.Inference.Known.{known-more}
+use Rattle.engine_updates.specs.Applicable.{Applicable}
+use Rattle.paper_rules.specs.Inference.KnownMore.{known-more}
 use Rattle.paper_entries.specs.Allowed.{KnownAll}
-use Rattle.paper_entries.specs.Made.{HoldAll}
-use Rattle.paper_entries.specs.Raw.{updated-all}
+use Rattle.paper_entries.specs.ShowsEntry.{HoldAll}
+use Rattle.paper_entries.specs.RawShown.{updated-all}
 use Rattle.paper_entries.specs.Paper.Enter.{updateAll}
 use Rattle.call_statements.specs.declared.Stated.{Stated}
 use Rattle.call_statements.specs.declared.Stated.the-variants.{Row, One, Two}
 
 -- the row that is stated
-abbrev pub statedRow : ℤ → ℤ → ℤ → ℕ → Rows.Row
+abbrev statedRow : ℤ → ℤ → ℤ → ℕ → Rows.Row
 statedRow length earliest latest mark = record { mark = mark; length = length; earliest = earliest; latest = latest }
 
 abbrev pub rawOf : Board → Stated → Option Board
@@ -46,16 +46,16 @@ abbrev pub grown : Board → Stated → Board
 grown b s = withJobs b (jobsWith (b .jobs) s)
 
 -- there is a place for the row, which is within its limits, and the facts are about jobs of the board
-abbrev pub Admissible : ℕ → Stated → Type 0
-Admissible n (Row length earliest latest mark) = (n < jobLimit) × Fits (statedRow length earliest latest mark) × (mark ≤ 1)
-Admissible n (One f) = Known n (factOf f) × Timely f
-Admissible n (Two f g) = Known n (factOf f) × Timely f × Known n (factOf g) × Timely g
+abbrev pub Storable : ℕ → Stated → Type 0
+Storable n (Row length earliest latest mark) = (n < jobLimit) × Fits (statedRow length earliest latest mark) × (mark ≤ 1)
+Storable n (One f) = Known n (factOf f) × Applicable f
+Storable n (Two f g) = Known n (factOf f) × Applicable f × Known n (factOf g) × Applicable g
 
 -- the facts are about jobs that have a place
-abbrev pub Placed : Stated → Type 0
-Placed (Row length earliest latest mark) = Unit
-Placed (One f) = Known jobLimit (factOf f)
-Placed (Two f g) = Known jobLimit (factOf f) × Known jobLimit (factOf g)
+abbrev pub HavePlaces : Stated → Type 0
+HavePlaces (Row length earliest latest mark) = Unit
+HavePlaces (One f) = Known jobLimit (factOf f)
+HavePlaces (Two f g) = Known jobLimit (factOf f) × Known jobLimit (factOf g)
 
 -- on any board of n jobs within its limits the arrays are altered to those of the board that shows what is stated, or there is none
 abbrev pub States : Stated → ℕ → List ℤ → List ℤ → List ℤ → List ℕ → List ℕ → List ℕ → Bool → List ℤ → List ℤ → List ℤ → List ℕ → List ℕ → List ℕ → Type 0
@@ -64,17 +64,17 @@ States s n lengths earliest latest marks after before possible lengths' earliest
     → rawOf (filled b lengths earliest latest marks after before) s ≡ possibly possible (filled (grown b s) lengths' earliest' latest' marks' after' before')
 
 -- facts that have a place among n jobs have one among all
-pub placed : (n : ℕ) (s : Stated) → n ≤ jobLimit → Admissible n s → Placed s
-placed n (Row length earliest latest mark) l h = tt
-placed n (One f) l (known, _) = known-more l (factOf f) known
-placed n (Two f g) l (first, _, second, _) = (known-more l (factOf f) first, known-more l (factOf g) second)
+pub have-places : (n : ℕ) (s : Stated) → n ≤ jobLimit → Storable n s → HavePlaces s
+have-places n (Row length earliest latest mark) l h = tt
+have-places n (One f) l (known, _) = known-more l (factOf f) known
+have-places n (Two f g) l (first, _, second, _) = (known-more l (factOf f) first, known-more l (factOf g) second)
 
 -- the board that shows what is stated is within its limits
 module _ (b : Board) (h : Within b) where
   facts-within : (fs : List Fact) → KnownAll (b .jobs) fs → (c : Board) → updateAll b fs ≡ some c → Within c
   facts-within fs known c is = subst (Extends (b .jobs) (HoldAll fs) b) is (updated-all b h fs known) .more .within
 
-  pub stated-within : (s : Stated) → Admissible (b .jobs) s → (c : Board) → rawOf b s ≡ some c → Within c
+  pub stated-within : (s : Stated) → Storable (b .jobs) s → (c : Board) → rawOf b s ≡ some c → Within c
   stated-within (Row length earliest latest mark) (room, fits, low) c is =
       let r = statedRow length earliest latest mark in
       subst (Extends (suc (b .jobs)) (HasRow (b .jobs) r) b) is (appended b r h room fits low) .more .within

@@ -8,8 +8,8 @@ use paper_entries::Entry;
 ghost use mathlib.Core.Path.{_≡_};
 ghost use mathlib.Core.Bool.{cond};
 ghost use lib.Dec.{eqb};
-ghost use Rattle.paper_entries.specs.Paper.Values.{entryOf};
-ghost use Rattle.call_statements.specs.StatedBy.{Passed, statedBy};
+ghost use Rattle.paper_entries.specs.Paper.EntryOf.{entryOf};
+ghost use Rattle.call_statements.specs.StatedBy.{ChecksPassed, statedBy};
 
 // A job's row, or one fact, or two: a cut states a bound on either side.
 pub enum Stated {
@@ -53,7 +53,7 @@ fn cutting(job: usize, earliest: i32, latest: i32) -> Stated
 }
 
 pub fn stated_by(entry: Entry) -> Stated
-    requires { ⌜ Passed (entryOf entry) ⌝ }
+    requires { ⌜ ChecksPassed (entryOf entry) ⌝ }
     ensures { λ r. ⌜ r ≡ statedBy (entryOf entry) ⌝ }
 {
     match entry {

@@ -19,11 +19,11 @@ use Rattle.ground_arithmetic.specs.Bools.{and-parts, refuted}
 use Rattle.paper_board.specs.declared.Board.{Board}
 use Rattle.paper_board.specs.Paper.View.{Live, Valid, view, rowOf}
 use Rattle.paper_board.specs.Paper.Limits.{jobLimit, Within}
-use Rattle.paper_board.specs.Tests.Live.{live-yes, valid-yes, valid-show}
-use Rattle.paper_rules.specs.Update.Filled.{filled, possibly, ArraysWithin}
+use Rattle.paper_board.specs.BoardTests.Live.{live-yes, valid-yes, valid-show}
+use Rattle.paper_rules.specs.Update.ArraysWithin.{filled, possibly, ArraysWithin}
 use Rattle.paper_rules.specs.Update.Strike.{strike}
 use Rattle.paper_rules.specs.Update.StrikeLaws.{strike-member, strike-other}
-use Rattle.paper_rules.specs.Update.Reaches.{Reached, Reaches, reached-self}
+use Rattle.paper_rules.specs.Update.Derives.{Derived, Derives, derived-self}
 use Rattle.engine_marks.specs.Marked.{marked, unmarked, bit-live, bit-valid}
 use Rattle.engine_exclusion.specs.Gone.{AllGone, gone-valid, struck-all}
 use Rattle.engine_propagation.specs.Turns.{Turns, Onward, Shut}
@@ -71,7 +71,7 @@ module _ (c : Board) (within : Within c) (set : ℕ) where
 abbrev pub Advances : ℕ → List ℤ → List ℤ → List ℤ → List ℕ → List ℕ → List ℕ → Bool → List ℤ → List ℤ → List ℤ → List ℕ → List ℕ → List ℕ → Type 0
 Advances n lengths earliest latest marks after before possible lengths' earliest' latest' marks' after' before' =
     (b : Board) → b .jobs ≡ n → Within (filled b lengths earliest latest marks after before)
-    → Reaches (filled b lengths earliest latest marks after before) (possibly possible (filled b lengths' earliest' latest' marks' after' before'))
+    → Derives (filled b lengths earliest latest marks after before) (possibly possible (filled b lengths' earliest' latest' marks' after' before'))
 
 -- what propagation promises of the arrays of a board of n jobs, with the words of its live and its valid jobs
 module _ (n : ℕ) (lengths earliest latest : List ℤ) (marks after before : List ℕ) (lives valids : ℕ)
@@ -93,19 +93,19 @@ module _ (n : ℕ) (lengths earliest latest : List ℤ) (marks after before : Li
     valids-are x e = valid-yes (view start) x (sym (ap (λ w. bit w x) (rw (← jobs) at is-valid) ∙ bit-valid start x) ∙ e)
 
     begun : Turns start lives valids earliest latest before after
-    begun = record { lives = lives-are; sound = valids-are; reached = reached-self start within }
+    begun = record { lives = lives-are; sound = valids-are; derived = derived-self start within }
 
-    led : Reached start end
-    led = onward start refl begun .reached
+    led : Derived start end
+    led = onward start refl begun .derived
 
     gone : AllGone start stuck
     gone = shut start refl begun
 
     -- a valid job can't stay
-    contradiction : (both : ℕ) → both ≡ intersection stuck valids → both ≢ 0 → both < 2 ^ jobLimit → Reaches start none
+    contradiction : (both : ℕ) → both ≡ intersection stuck valids → both ≢ 0 → both < 2 ^ jobLimit → Derives start none
     contradiction both e some-job width = excluded _ (trailing-lowest jobLimit both some-job width)
       where
-        excluded : (x : ℕ) → Lowest jobLimit both x → Reaches start none
+        excluded : (x : ℕ) → Lowest jobLimit both x → Derives start none
         excluded x low =
             let (out, valid) = and-parts (bit stuck x) (bit valids x) (sym (ap (λ w. bit w x) e ∙ bit-intersection stuck valids x) ∙ low .member) in
             gone-valid start stuck x gone out (valids-are x valid)
@@ -116,7 +116,7 @@ module _ (n : ℕ) (lengths earliest latest : List ℤ) (marks after before : Li
         let valid : bit valids x ≡ true = ap (λ w. bit w x) (rw (← jobs) at is-valid) ∙ bit-valid start x ∙ valid-show (view start) x (gone .gone x e .0 .0, one) in
         refuted (sym (bit-intersection stuck valids x) ∙ ap (λ w. bit w x) apart ∙ bit-zero x) (rw (e, valid))
 
-    struck : intersection stuck valids ≡ 0 → Reached start (strike end stuck)
+    struck : intersection stuck valids ≡ 0 → Derived start (strike end stuck)
     struck apart = struck-all start end led stuck gone (undecided apart) (λ x e. gone .gone x e .0 .1)
 
   -- all jobs can stay
@@ -125,7 +125,7 @@ module _ (n : ℕ) (lengths earliest latest : List ℤ) (marks after before : Li
 
   -- a valid one can't
   pub advanced-none : (both : ℕ) → both ≡ intersection stuck valids → both ≢ 0 → both < 2 ^ jobLimit
-      → (b : Board) → b .jobs ≡ n → Within (filled b lengths earliest latest marks after before) → Reaches (filled b lengths earliest latest marks after before) none
+      → (b : Board) → b .jobs ≡ n → Within (filled b lengths earliest latest marks after before) → Derives (filled b lengths earliest latest marks after before) none
   advanced-none both e some-job width b jobs within = contradiction b jobs within both e some-job width
 
   -- others can't, and are struck out
@@ -135,7 +135,7 @@ module _ (n : ℕ) (lengths earliest latest : List ℤ) (marks after before : Li
       → filled b lengths'' earliest'' latest'' marks'' after'' before'' ≡ strike (filled b lengths earliest' latest' marks after' before') stuck)
       → Advances n lengths earliest latest marks after before true lengths'' earliest'' latest'' marks'' after'' before''
   advanced-struck apart lengths'' earliest'' latest'' marks'' after'' before'' is b jobs within =
-      subst (Reached (filled b lengths earliest latest marks after before)) (sym (is b jobs)) (struck b jobs within apart)
+      subst (Derived (filled b lengths earliest latest marks after before)) (sym (is b jobs)) (struck b jobs within apart)
 
   -- and what is left of the live jobs and of the valid ones
   pub struck-sets : intersection stuck valids ≡ 0 → stuck < 2 ^ jobLimit → (rest : ℕ) → rest ≡ difference jobLimit lives stuck

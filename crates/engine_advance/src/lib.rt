@@ -7,7 +7,7 @@ use engine_strikes::strike;
 use paper_board::Board;
 ghost use mathlib.Core.Path.{_≡_};
 ghost use mathlib.Core.Bool.{true};
-ghost use Rattle.paper_rules.specs.Update.Filled.{ArraysWithin};
+ghost use Rattle.paper_rules.specs.Update.ArraysWithin.{ArraysWithin};
 ghost use Rattle.engine_marks.specs.Marked as sets;
 ghost use Rattle.engine_advance.specs.Advances.{Advances};
 

@@ -1,2 +1,2 @@
 -- What it means that the two words of each arc agree.
-pub mod Agreement
+pub mod Agree

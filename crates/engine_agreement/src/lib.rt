@@ -3,8 +3,8 @@ use engine_transposition::transpose;
 use paper_board::Board;
 ghost use mathlib.Core.Path.{_≡_};
 ghost use lib.Dec.{eqb};
-ghost use Rattle.paper_board.specs.Tests.Decides.{Decides};
-ghost use Rattle.engine_agreement.specs.Agreement.{SameBits, SameWords, Agree};
+ghost use Rattle.paper_board.specs.BoardTests.Decides.{Decides};
+ghost use Rattle.engine_agreement.specs.Agree.{SameBits, SameWords, Agree};
 
 // The differences found so far, and those of two more words.
 fn differences(found: u64, a: u64, b: u64) -> u64

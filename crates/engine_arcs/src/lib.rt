@@ -10,7 +10,7 @@ ghost use Rattle.paper_board.specs.Paper.Limits.{jobLimit, Within};
 ghost use Rattle.paper_board.specs.Paper.Facts.{is-arc};
 ghost use Rattle.paper_rules.specs.Update.Updates as updates;
 ghost use Rattle.paper_rules.specs.Update.Shown.{arcShown};
-ghost use Rattle.paper_rules.specs.Update.Filled.{filled};
+ghost use Rattle.paper_rules.specs.Update.ArraysWithin.{filled};
 
 // An arc, in both words that keep it.
 pub fn link(before: &mut [u64; Board::JOBS], after: &mut [u64; Board::JOBS], from: usize, to: usize)

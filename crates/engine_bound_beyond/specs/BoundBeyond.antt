@@ -15,14 +15,14 @@ use Rattle.ground_arithmetic.specs.Bools.{refuted, by-test}
 use Rattle.ground_arithmetic.specs.Linear.{whole, plus}
 use Rattle.paper_board.specs.Paper.View.{Side}
 use Rattle.paper_board.specs.Paper.Limits.{jobLimit}
-use Rattle.paper_board.specs.Tests.Decides.{Decides, retested, _and_, negated, holds, eq}
+use Rattle.paper_board.specs.BoardTests.Decides.{Decides, retested, _and_, negated, holds, eq}
 use Rattle.engine_sums.specs.Sums.{boundAt, endAt, load, Sum, Exceeds, over, EndsBy, Pushes}
-use Rattle.engine_sums.specs.Laws.{load-none}
+use Rattle.engine_sums.specs.SumLaws.{load-none}
 use Rattle.engine_sums.specs.Single.{single}
 
 -- r has the jobs of the set w but k that are not in k's word
-abbrev pub Apart : ℕ → ℕ → ℕ → ℕ → Type 0
-Apart w k word r = (x : ℕ) → Decides (bit r x) (((bit w x ≡ true) × (k ≢ x)) × (bit word x ≡ true → ⊥))
+abbrev pub ApartSet : ℕ → ℕ → ℕ → ℕ → Type 0
+ApartSet w k word r = (x : ℕ) → Decides (bit r x) (((bit w x ≡ true) × (k ≢ x)) × (bit word x ≡ true → ⊥))
 
 -- The jobs of the set w lie beyond a last one, but for some that stand apart. With all of these the last one ends by the bound of job j, and
 -- so do their own sums.
@@ -30,11 +30,11 @@ pub record LastUnder (s : Side) (times lengths : List ℤ) (beyond : List ℕ) (
   pub last : ℕ
   pub member : bit w last ≡ true
   pub rest : ℕ
-  pub apart : Apart w last (getD beyond last 0) rest
+  pub apart : ApartSet w last (getD beyond last 0) rest
   pub ends : EndsBy s times lengths last rest (boundAt s times j)
 
 -- What an answer says of the jobs w beyond job j. A bound is a sum above j's own. Where there is none, no sum is above it, or the last
--- one's end is not: that suffices once it is known of the last one too (`Settled` of `engine_job_rules`).
+-- one's end is not: that suffices once it is known of the last one too (`SideSettled` of `engine_job_rules`).
 abbrev pub Says : Side → List ℤ → List ℤ → List ℕ → ℕ → ℕ → Option ℤ → Type 0
 Says s times lengths beyond w j none =
     ((z : ℤ) → Sum s times lengths w z → z ≤ℤ boundAt s times j) ⊎ LastUnder s times lengths beyond w j
@@ -47,7 +47,7 @@ pushing beyond valids j = intersection valids (getD beyond j 0)
 abbrev pub BoundBeyond : Side → List ℤ → List ℤ → List ℕ → ℕ → ℕ → Option ℤ → Type 0
 BoundBeyond s times lengths beyond valids j = Says s times lengths beyond (pushing beyond valids j) j
 
-pub apart-is : (n w k word : ℕ) → w < 2 ^ n → word < 2 ^ n → k < n → Apart w k word (difference n (without n w k) word)
+pub apart-is : (n w k word : ℕ) → w < 2 ^ n → word < 2 ^ n → k < n → ApartSet w k word (difference n (without n w k) word)
 apart-is n w k word fw fo l x =
     retested (bit-difference n (without n w k) word x (without-lt n w k fw) fo)
     (retested (bit-without n w k x fw l) (holds (bit w x) and negated (eq k x)) and negated (holds (bit word x)))
@@ -57,7 +57,7 @@ module _ (s : Side) (times lengths : List ℤ) (beyond : List ℕ) (j w : ℕ) w
   none-there : w ≡ 0 → Says s times lengths beyond w j none
   none-there e = inl λ z p. absurd (refuted (ap (λ x. bit x (p .first)) e ∙ bit-zero (p .first)) (p .inside (p .first) (p .member)))
 
-  module _ (k rest : ℕ) (place : k < jobLimit) (member : bit w k ≡ true) (apart : Apart w k (getD beyond k 0) rest) where
+  module _ (k rest : ℕ) (place : k < jobLimit) (member : bit w k ≡ true) (apart : ApartSet w k (getD beyond k 0) rest) where
     -- the last one with those that stand apart
     pub last-ends-by : EndsBy s times lengths k rest (boundAt s times j) → Says s times lengths beyond w j none
     last-ends-by ends = inr (record { last = k; member = member; rest = rest; apart = apart; ends = ends })

@@ -13,7 +13,7 @@ ghost use Rattle.ground_sets.specs.Bit.{bit};
 ghost use Rattle.paper_board.specs.Paper.Limits.{jobLimit};
 ghost use Rattle.paper_board.specs.Paper.Values.{sideOf};
 ghost use Rattle.engine_sums.specs.Sums.{boundOf, Times, Lengths};
-ghost use Rattle.engine_bound_beyond.specs.BoundBeyond.{Apart, Says, BoundBeyond};
+ghost use Rattle.engine_bound_beyond.specs.BoundBeyond.{ApartSet, Says, BoundBeyond};
 
 // A last job of the set: one with none of the others on its opposite side. Where each has one, as on a cycle, any job will do.
 pub fn last(set: u64, opposite: &[u64; Board::JOBS]) -> usize
@@ -34,7 +34,7 @@ pub fn last(set: u64, opposite: &[u64; Board::JOBS]) -> usize
 // The jobs of the set but k that are not in k's word.
 pub fn standing_apart(set: u64, k: usize, word: u64) -> u64
     requires { ⌜ k < jobLimit ⌝ }
-    ensures { λ r. ⌜ Apart set k word r ⌝ }
+    ensures { λ r. ⌜ ApartSet set k word r ⌝ }
 {
     ground_sets::difference(ground_sets::without(set, k), word)
 }

@@ -1,2 +1,2 @@
 -- A bound put on a job's window, as code.
-pub mod Tightened
+pub mod Tightens

@@ -12,8 +12,8 @@ ghost use Rattle.paper_board.specs.Paper.Limits.{jobLimit};
 ghost use Rattle.paper_board.specs.Paper.View.{rowOf};
 ghost use Rattle.paper_board.specs.Paper.Values.{sideOf, turned};
 ghost use Rattle.paper_rules.specs.Update.Shown.{boundShown};
-ghost use Rattle.paper_rules.specs.Update.Filled.{filled};
-ghost use Rattle.engine_bounds.specs.Tightened.{Tightens};
+ghost use Rattle.paper_rules.specs.Update.ArraysWithin.{filled};
+ghost use Rattle.engine_bounds.specs.Tightens.{Tightens};
 
 // Does a job's window show the bound already, or is the job invalid?
 pub fn is_bounded<'a>(

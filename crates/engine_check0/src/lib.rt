@@ -7,7 +7,7 @@ use engine_marks::sets;
 use engine_search::find;
 use paper_board::Board;
 ghost use mathlib.Core.Path.{_≡_};
-ghost use Rattle.paper_closure.specs.Check as check;
+ghost use Rattle.paper_closure.specs.Passes as check;
 
 // A board within its limits is closed over what it shows where nothing is left to infer.
 pub fn passes(b: Board) -> bool

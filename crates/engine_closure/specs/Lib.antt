@@ -1,3 +1,3 @@
 -- The closing loop on a board's arrays: that what it does is a run of inferences, and that where it ends is the closure.
-pub mod Timely
-pub mod InPlace
+pub mod InferredApplicable
+pub mod LedClosed

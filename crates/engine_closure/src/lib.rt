@@ -6,8 +6,8 @@ use engine_findings::Found;
 use engine_search::find;
 use engine_updates::update;
 use paper_board::Board;
-ghost use Rattle.paper_rules.specs.Update.Filled.{ArraysWithin, Alters};
-ghost use Rattle.paper_closure.specs.Closing as closing;
+ghost use Rattle.paper_rules.specs.Update.ArraysWithin.{ArraysWithin, Alters};
+ghost use Rattle.paper_closure.specs.Closure as closing;
 
 // Which inference comes first doesn't matter: any run of them ends in the same board. Propagation, from what is due, makes
 // most of them at the least cost; that none is left is what the search shows.

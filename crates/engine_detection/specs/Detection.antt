@@ -13,13 +13,13 @@ use Rattle.ground_arithmetic.specs.Linear.{whole}
 use Rattle.paper_board.specs.declared.Board.{Board}
 use Rattle.paper_board.specs.Paper.View.{Live, view}
 use Rattle.paper_board.specs.Paper.Limits.{jobLimit}
-use Rattle.paper_board.specs.Tests.Decides.{retested, _and_, negated, holds, eq}
+use Rattle.paper_board.specs.BoardTests.Decides.{retested, _and_, negated, holds, eq}
 use Rattle.paper_rules.specs.Inference.Infers.{r3}
-use Rattle.paper_board.specs.Tests.Sets.{Subset}
+use Rattle.paper_board.specs.BoardTests.Sets.{Subset}
 use Rattle.engine_arcs.specs.Arcs.{Sound, sound-none, sound-link, sound-then}
 
 -- the arrays are the board's own
-pub record Read (earliest latest lengths : List ℤ) (b : Board) : Type 0 where
+pub record ArraysRead (earliest latest lengths : List ℤ) (b : Board) : Type 0 where
   pub is-earliest : b .earliest ≡ earliest
   pub is-latest : b .latest ≡ latest
   pub is-lengths : b .lengths ≡ lengths
@@ -28,24 +28,24 @@ pub record Read (earliest latest lengths : List ℤ) (b : Board) : Type 0 where
 pub record Pair (first second : ℕ) (earliest latest lengths : List ℤ) (b : Board) : Type 0 where
   pub live : Live (view b) first × Live (view b) second
   pub differ : first ≢ second
-  pub read : Read earliest latest lengths b
+  pub read : ArraysRead earliest latest lengths b
 
 -- a live job of the board, and other live ones
 pub record Beside (job others : ℕ) (earliest latest lengths : List ℤ) (b : Board) : Type 0 where
   pub live : Live (view b) job
   pub beside : (k : ℕ) → bit others k ≡ true → Live (view b) k × (job ≢ k)
-  pub read : Read earliest latest lengths b
+  pub read : ArraysRead earliest latest lengths b
 
 -- live jobs of the board, and live jobs that they are held against
 pub record Meeting (due others : ℕ) (earliest latest lengths : List ℤ) (b : Board) : Type 0 where
   pub lives : (k : ℕ) → bit due k ≡ true → Live (view b) k
   pub beside : (k : ℕ) → bit others k ≡ true → Live (view b) k
-  pub read : Read earliest latest lengths b
+  pub read : ArraysRead earliest latest lengths b
 
 -- live jobs of the board
 pub record AllLive (live : ℕ) (earliest latest lengths : List ℤ) (b : Board) : Type 0 where
   pub members : (k : ℕ) → bit live k ≡ true → Live (view b) k
-  pub read : Read earliest latest lengths b
+  pub read : ArraysRead earliest latest lengths b
 
 module _ (earliest latest lengths : List ℤ) (before after : List ℕ) where
   -- R3 at a pair
@@ -55,7 +55,7 @@ module _ (earliest latest lengths : List ℤ) (before after : List ℕ) where
       → Sound (Pair first second earliest latest lengths) before after before' after'
   detected first second before' after' late e d =
       sound-link (Pair first second earliest latest lengths) before after before after (sound-none (Pair first second earliest latest lengths) before after)
-      second first before' after' e d λ b h p reached.
+      second first before' after' e d λ b h p derived.
       let test = rw (← p .read .is-latest, ← p .read .is-lengths, ← p .read .is-earliest) at late in
       r3 first second (p .live .0) (p .live .1) (p .differ) (omega (whole, test))
 
@@ -71,7 +71,7 @@ module _ (earliest latest lengths : List ℤ) (before after : List ℕ) where
       → Sound (Beside job others earliest latest lengths) before after before'' after''
   beside-more job others before' after' run k member before'' after'' rest =
       sound-then (Beside job others earliest latest lengths) before after before' after' run (Pair job k earliest latest lengths) before'' after'' rest
-      λ b h p reached. let (live, ne) = p .beside k member in record { live = (p .live, live); differ = ne; read = record { is-earliest = p .read .is-earliest; is-latest = p .read .is-latest; is-lengths = p .read .is-lengths } }
+      λ b h p derived. let (live, ne) = p .beside k member in record { live = (p .live, live); differ = ne; read = record { is-earliest = p .read .is-earliest; is-latest = p .read .is-latest; is-lengths = p .read .is-lengths } }
 
   -- one job more that is due, with the others that are not kept apart from it
   pub job-detected : (due others : ℕ) → others < 2 ^ jobLimit → (before' after' : List ℕ) → Sound (Meeting due others earliest latest lengths) before after before' after'
@@ -81,7 +81,7 @@ module _ (earliest latest lengths : List ℤ) (before after : List ℕ) where
       → Sound (Meeting due others earliest latest lengths) before after before'' after''
   job-detected due others width before' after' run job near apart place member fits e before'' after'' rest =
       sound-then (Meeting due others earliest latest lengths) before after before' after' run (Beside job near earliest latest lengths) before'' after'' rest
-      λ b h p reached. record {
+      λ b h p derived. record {
         live = p .lives job member;
         beside = λ k m.
             let tests = retested (bit-difference jobLimit (without jobLimit others job) apart k (without-lt jobLimit others job width) fits)

@@ -14,7 +14,7 @@ ghost use mathlib.Core.Logic.{_≢_};
 ghost use Prim.Native.Nat.{_<_};
 ghost use Rattle.ground_arithmetic.specs.Time.{Moderate};
 ghost use Rattle.paper_board.specs.Paper.Limits.{jobLimit};
-ghost use Rattle.paper_board.specs.Tests.Sets.{Subset};
+ghost use Rattle.paper_board.specs.BoardTests.Sets.{Subset};
 ghost use Rattle.engine_sums.specs.Sums.{Times, Lengths};
 ghost use Rattle.engine_arcs.specs.Arcs.{Sound};
 ghost use Rattle.engine_detection.specs.Detection.{Pair, Beside, Meeting, AllLive};

@@ -17,11 +17,11 @@ use Rattle.paper_board.specs.Paper.View.{View, Valid, Side, bound, Beyond, view
 use Rattle.paper_board.specs.Paper.Limits.{jobLimit}
 use Rattle.paper_board.specs.Paper.Values.{turned}
 use Rattle.paper_rules.specs.Inference.Infers.{Pushing}
-use Rattle.paper_board.specs.Tests.Sets.{Subset}
-use Rattle.engine_sums.specs.Exact.{timesOf, bound-is}
+use Rattle.paper_board.specs.BoardTests.Sets.{Subset}
+use Rattle.engine_sums.specs.RaiseExact.{timesOf, bound-is}
 use Rattle.engine_bound_beyond.specs.BoundBeyond.{pushing}
-use Rattle.engine_job_rules.specs.Settled.{Settled}
-use Rattle.engine_job_rules.specs.JobSearched.{wordsOf, SideRead, Represented, beyond-bit, pushing-bit}
+use Rattle.engine_job_rules.specs.SideSettled.{SideSettled}
+use Rattle.engine_job_rules.specs.JobSearched.{sideWords, SideRead, Represented, beyond-bit, pushing-bit}
 
 -- the jobs of the set w lie in the word w', and as bounds on side s the time t is no lower than t'
 pub record Dominated (s : Side) (w w' : ℕ) (t t' : ℤ) : Type 0 where
@@ -55,7 +55,7 @@ module _ (v : View) (s : Side) (p j : ℕ) (shared : (k : ℕ) → Valid v k →
         low = q .low;
       }
 
-  pub dominated : Settled v s p → Settled v s j
+  pub dominated : SideSettled v s p → SideSettled v s j
   dominated (inl obeyed) = inl λ S m q. omega (whole, obeyed S m (pushes-both S m q))
   dominated (inr l) =
       inr
@@ -71,16 +71,16 @@ module _ (v : View) (s : Side) (p j : ℕ) (shared : (k : ℕ) → Valid v k →
 -- ---- over the numbers and words of a board
 
 module _ {b : Board} {s : Side} {times lengths : List ℤ} {beyond : List ℕ} {valids : ℕ} (h : SideRead b s times lengths beyond valids) where
-  pub represented : (done j r : ℕ) → ((k : ℕ) → bit done k ≡ true → Settled (view b) s k) → Represents s times beyond valids done j r
+  pub represented : (done j r : ℕ) → ((k : ℕ) → bit done k ≡ true → SideSettled (view b) s k) → Represents s times beyond valids done j r
       → Represented (view b) s r j
   represented done j r settled (_, serves) other = go (rw (h .is-times, h .is-beyond) at (serves other))
     where
-      pushes : (k : ℕ) → Valid (view b) k → Beyond (view b) s k j → bit (pushing (wordsOf b s) valids j) k ≡ true
+      pushes : (k : ℕ) → Valid (view b) k → Beyond (view b) s k j → bit (pushing (sideWords b s) valids j) k ≡ true
       pushes k valid far = pushing-bit b (h .within) valids (h .is-valid) s j k .show (valid, far)
 
-      go : let w = pushing (wordsOf b s) valids j in
-          (w ≡ 0) ⊎ ((bit done r ≡ true) × Dominated s w (getD (wordsOf b s) r 0) (getD (timesOf b s) j (pos 0)) (getD (timesOf b s) r (pos 0)))
-          → Settled (view b) s j
+      go : let w = pushing (sideWords b s) valids j in
+          (w ≡ 0) ⊎ ((bit done r ≡ true) × Dominated s w (getD (sideWords b s) r 0) (getD (timesOf b s) j (pos 0)) (getD (timesOf b s) r (pos 0)))
+          → SideSettled (view b) s j
       go (inl none) = inl λ S m q.
           let k = q .member in
           absurd (refuted (ap (λ w. bit w k) none ∙ bit-zero k) (pushes k (q .valid k (q .inside)) (q .beyond k (q .inside))))

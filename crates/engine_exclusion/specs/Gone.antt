@@ -24,13 +24,13 @@ use Rattle.paper_rules.specs.Paper.Rules.{E, D, L}
 use Rattle.paper_board.specs.Paper.Values.{turned}
 use Rattle.paper_rules.specs.Inference.Infers.{Infers, Obeys, r2, r6}
 use Rattle.paper_rules.specs.Inference.Forced.{forced, invalid-unless}
-use Rattle.paper_rules.specs.Order.Laws.{live-down, valid-up, bound-up, length-up}
-use Rattle.paper_rules.specs.Update.Compose.{extends-then}
+use Rattle.paper_rules.specs.Order.OrderLaws.{live-down, valid-up, bound-up, length-up}
+use Rattle.paper_rules.specs.Update.ExtendsThen.{extends-then}
 use Rattle.paper_rules.specs.Update.Updates.{update, exclude, invalidate, _andThen_}
 use Rattle.paper_rules.specs.Update.Updated.{updated}
 use Rattle.paper_rules.specs.Update.Strike.{strike}
 use Rattle.paper_rules.specs.Update.StrikeLaws.{strike-induction}
-use Rattle.paper_rules.specs.Update.Reaches.{Reached, Reaches}
+use Rattle.paper_rules.specs.Update.Derives.{Derived, Derives}
 
 abbrev pub Gone : Board → ℕ → Type 0
 Gone b j = Live (view b) j × ((w : View) → view b ⊑ w → Obeys w → Invalid w j)
@@ -42,33 +42,33 @@ pub none-gone : (b : Board) → AllGone b 0
 none-gone b = record { gone = λ x e. absurd (refuted (bit-zero x) e) }
 
 -- gone from a board that was reached
-pub gone-before : (b c : Board) → Reached b c → (set : ℕ) → AllGone c set → AllGone b set
-gone-before b c reached set h =
+pub gone-before : (b c : Board) → Derived b c → (set : ℕ) → AllGone c set → AllGone b set
+gone-before b c derived set h =
     record {
       gone = λ x e.
           let (live, gone) = h .gone x e in
-          let place : x < b .jobs = omega (arith, live .0, reached .more .jobs) in
-          (live-down (view b) (view c) (reached .more .above) x place live, λ w up obeys. gone w (reached .least w up obeys tt) obeys);
+          let place : x < b .jobs = omega (arith, live .0, derived .more .jobs) in
+          (live-down (view b) (view c) (derived .more .above) x place live, λ w up obeys. gone w (derived .least w up obeys tt) obeys);
     }
 
 -- where a valid job can't stay there is no board
-pub gone-valid : (b : Board) (set x : ℕ) → AllGone b set → bit set x ≡ true → Valid (view b) x → Reaches b none
+pub gone-valid : (b : Board) (set x : ℕ) → AllGone b set → bit set x ≡ true → Valid (view b) x → Derives b none
 gone-valid b set x h member valid w up obeys _ =
     let one = valid-up (view b) w up x valid .1 in
     let two = h .gone x member .1 w up obeys .1 in
     absurd (omega arith)
 
 -- such a job struck out
-struck : (b c : Board) → Reached b c → (j : ℕ) → Gone b j → Reaches b (exclude c j)
+struck : (b c : Board) → Derived b c → (j : ℕ) → Gone b j → Derives b (exclude c j)
 unfolding update _andThen_
-struck b c reached j (live, gone) =
+struck b c derived j (live, gone) =
     extends-then (b .jobs) (λ w. Unit) (λ w. Invalid w j) (λ w. Unit) b
     (λ _ _ _ _. tt)
     (λ _ _ _. tt)
     (λ w up obeys _. (tt, gone w up obeys))
     (some c)
     (λ d. exclude d j)
-    reached
+    derived
     λ d x.
     updated d (x .more .within) (is-invalid j) (omega (arith, live .0, x .more .jobs))
 
@@ -77,12 +77,12 @@ unfolding exclude
 exclude-open c j one two = rw (ne-eqb _ _ one, ne-eqb _ _ two)
 
 -- all of them struck out, where none is valid
-pub struck-all : (b c : Board) → Reached b c → (set : ℕ) → AllGone b set → ((x : ℕ) → bit set x ≡ true → rowOf c x .mark ≢ 1)
-    → ((x : ℕ) → bit set x ≡ true → rowOf c x .mark ≢ 2) → Reached b (strike c set)
-struck-all b c reached set h one two =
-    strike-induction c (reached .more .within) set (λ x e. omega (arith, h .gone x e .0 .0, reached .more .jobs)) (Reached b) reached
+pub struck-all : (b c : Board) → Derived b c → (set : ℕ) → AllGone b set → ((x : ℕ) → bit set x ≡ true → rowOf c x .mark ≢ 1)
+    → ((x : ℕ) → bit set x ≡ true → rowOf c x .mark ≢ 2) → Derived b (strike c set)
+struck-all b c derived set h one two =
+    strike-induction c (derived .more .within) set (λ x e. omega (arith, h .gone x e .0 .0, derived .more .jobs)) (Derived b) derived
     λ d j within e same run.
-    subst (Reaches b)
+    subst (Derives b)
     (exclude-open d j (λ m. one j e (sym (ap (λ r. r .mark) same) ∙ m)) (λ m. two j e (sym (ap (λ r. r .mark) same) ∙ m)))
     (struck b d run j (h .gone j e))
 
@@ -117,11 +117,11 @@ module _ (b : Board) (j : ℕ) (live : Live (view b) j) (w : View) (up : view b 
       omega (whole, above, h, bound-up (view b) w up early j (live .0) lw, length-up (view b) w up j (live .0) lw, minus (D w j), minus t, plus (E (view b) j) (L (view b) j), plus (E w j) (L w j))
 
 -- what is left of a job's window, with the time t on side s
-abbrev pub Short : Side → ℤ → View → ℕ → Type 0
-Short early t v j = D v j <ℤ (t +ℤ L v j)
-Short late t v j = t <ℤ (E v j +ℤ L v j)
+abbrev pub NoRoom : Side → ℤ → View → ℕ → Type 0
+NoRoom early t v j = D v j <ℤ (t +ℤ L v j)
+NoRoom late t v j = t <ℤ (E v j +ℤ L v j)
 
-pub gone-short : (b : Board) (s : Side) (j : ℕ) (t : ℤ) → Live (view b) j → Infers (view b) (is-bound s j (turned s t)) → Short s t (view b) j → Gone b j
+pub gone-short : (b : Board) (s : Side) (j : ℕ) (t : ℤ) → Live (view b) j → Infers (view b) (is-bound s j (turned s t)) → NoRoom s t (view b) j → Gone b j
 gone-short b early j t live infers h = (
   live,
   λ w up obeys.

@@ -1,3 +1,3 @@
 -- What a search says, as a whole.
 pub mod Searched
-pub mod Values
+pub mod InferredOf

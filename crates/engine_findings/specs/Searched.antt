@@ -33,7 +33,7 @@ module _ (v : View) where
     pub order : D v k <ℤ (E v i +ℤ L v i +ℤ L v k) → Arc v k i
 
   -- a row of the pairs, and all of them
-  abbrev pub RowObeys : ℕ → Type 0
+  abbrev RowObeys : ℕ → Type 0
   RowObeys i = (k : ℕ) → Live v k × (i ≢ k) → PairObeys i k
 
   abbrev pub PairsObey : Type 0

@@ -18,39 +18,39 @@ use Rattle.paper_board.specs.Paper.Limits.{Within}
 use Rattle.paper_board.specs.Paper.Facts.{Fact, is-bound, is-invalid, Holds}
 use Rattle.paper_rules.specs.Paper.Rules.{E, D, L}
 use Rattle.paper_board.specs.Paper.Tests.{valid}
-use Rattle.paper_board.specs.Tests.Live.{roomy}
-use Rattle.paper_board.specs.Tests.Decides.{Decides, retested, _and_, holds, valid-is}
+use Rattle.paper_board.specs.BoardTests.Live.{roomy}
+use Rattle.paper_board.specs.BoardTests.Decides.{Decides, retested, _and_, holds, valid-is}
 use Rattle.paper_rules.specs.Inference.Infers.{Infers, r45, r6}
 use Rattle.engine_sums.specs.Sums.{Sum, boundAt}
-use Rattle.engine_sums.specs.Exact.{timesOf, bound-is, energy-is, sum-beyond, sum-of, exceeds-beyond}
+use Rattle.engine_sums.specs.RaiseExact.{timesOf, bound-is, energy-is, sum-beyond, sum-of, exceeds-beyond}
 use Rattle.paper_rules.specs.Inference.SumBeyond.{sum-pushes, pushing-sum}
 use Rattle.engine_bound_beyond.specs.BoundBeyond.{LastUnder, BoundBeyond, pushing}
 use Rattle.engine_findings.specs.Searched.{Searched, JobsObey}
-use Rattle.engine_job_rules.specs.Settled.{Settled, LastEnds, all-obeyed}
+use Rattle.engine_job_rules.specs.SideSettled.{SideSettled, LastEnds, all-obeyed}
 
 -- ---- one side
 
 -- the words of the jobs that lie beyond each job on side s
-abbrev pub wordsOf : Board → Side → List ℕ
-wordsOf b early = b .before
-wordsOf b late = b .after
+abbrev pub sideWords : Board → Side → List ℕ
+sideWords b early = b .before
+sideWords b late = b .after
 
 -- the numbers and words are those of the board on side s
 pub record SideRead (b : Board) (s : Side) (times lengths : List ℤ) (beyond : List ℕ) (valids : ℕ) : Type 0 where
   pub within : Within b
   pub is-times : times ≡ timesOf b s
   pub is-lengths : lengths ≡ b .lengths
-  pub is-beyond : beyond ≡ wordsOf b s
+  pub is-beyond : beyond ≡ sideWords b s
   pub is-valid : (x : ℕ) → bit valids x ≡ valid (view b) x
 
 -- where another job represents job j on side s, R4 or R5 is settled at j (`engine_dominance`)
 abbrev pub Represented : View → Side → ℕ → ℕ → Type 0
-Represented v s r j = r ≢ j → Settled v s j
+Represented v s r j = r ≢ j → SideSettled v s j
 
 abbrev pub SideSearched : Side → ℕ → ℕ → List ℤ → List ℤ → List ℕ → ℕ → Option Fact → Type 0
 SideSearched s j r times lengths beyond valids o =
     (b : Board) → SideRead b s times lengths beyond valids → Live (view b) j → Represented (view b) s r j
-    → Searched (view b) (Settled (view b) s j) o
+    → Searched (view b) (SideSettled (view b) s j) o
 
 -- a sum of valid jobs beyond j that is above its bound is what R4 or R5 infers, and not shown yet
 pub sum-infers : (b : Board) → Within b → (s : Side) (j w : ℕ) → Live (view b) j
@@ -68,16 +68,16 @@ abbrev pub told : Side → ℕ → Option ℤ → Option Fact
 told s j none = none
 told s j (some z) = some (is-bound s j z)
 
-pub beyond-bit : (b : Board) → Within b → (s : Side) (j k : ℕ) → Decides (bit (getD (wordsOf b s) j 0) k) (Beyond (view b) s k j)
+pub beyond-bit : (b : Board) → Within b → (s : Side) (j k : ℕ) → Decides (bit (getD (sideWords b s) j 0) k) (Beyond (view b) s k j)
 beyond-bit b h early j k = retested (h .twice k j) (holds (view b .arc k j))
 beyond-bit b h late j k = holds (view b .arc j k)
 
 module _ (b : Board) (h : Within b) (valids : ℕ) (is-valid : (x : ℕ) → bit valids x ≡ valid (view b) x) where
-  pub pushing-bit : (s : Side) (j k : ℕ) → Decides (bit (pushing (wordsOf b s) valids j) k) (Valid (view b) k × Beyond (view b) s k j)
+  pub pushing-bit : (s : Side) (j k : ℕ) → Decides (bit (pushing (sideWords b s) valids j) k) (Valid (view b) k × Beyond (view b) s k j)
   pushing-bit s j k =
-      retested (bit-intersection valids (getD (wordsOf b s) j 0) k) (retested (is-valid k) (valid-is (view b) k) and beyond-bit b h s j k)
+      retested (bit-intersection valids (getD (sideWords b s) j 0) k) (retested (is-valid k) (valid-is (view b) k) and beyond-bit b h s j k)
 
-  last-ends : (s : Side) (j : ℕ) → LastUnder s (timesOf b s) (b .lengths) (wordsOf b s) (pushing (wordsOf b s) valids j) j → LastEnds (view b) s j
+  last-ends : (s : Side) (j : ℕ) → LastUnder s (timesOf b s) (b .lengths) (sideWords b s) (pushing (sideWords b s) valids j) j → LastEnds (view b) s j
   last-ends s j l =
       record {
         last = l .last;
@@ -94,15 +94,15 @@ module _ (b : Board) (h : Within b) (valids : ℕ) (is-valid : (x : ℕ) → bit
       members k e = pushing-bit s j k .yes (l .apart k .yes e .0 .0)
 
       others : (k : ℕ) → Valid (view b) k → Beyond (view b) s k j → l .last ≢ k → Beyond (view b) s k (l .last) ⊎ (bit (l .rest) k ≡ true)
-      others k v beyond ne = go (bit (getD (wordsOf b s) (l .last) 0) k) refl
+      others k v beyond ne = go (bit (getD (sideWords b s) (l .last) 0) k) refl
         where
-          go : (t : Bool) → bit (getD (wordsOf b s) (l .last) 0) k ≡ t → Beyond (view b) s k (l .last) ⊎ (bit (l .rest) k ≡ true)
+          go : (t : Bool) → bit (getD (sideWords b s) (l .last) 0) k ≡ t → Beyond (view b) s k (l .last) ⊎ (bit (l .rest) k ≡ true)
           go true e = inl (beyond-bit b h s (l .last) k .yes e)
           go false e = inr (l .apart k .show ((pushing-bit s j k .show (v, beyond), ne), refuted e))
 
   side-says : (s : Side) (j : ℕ) → Live (view b) j → (o : Option ℤ)
-      → BoundBeyond s (timesOf b s) (b .lengths) (wordsOf b s) valids j o
-      → Searched (view b) (Settled (view b) s j) (told s j o)
+      → BoundBeyond s (timesOf b s) (b .lengths) (sideWords b s) valids j o
+      → Searched (view b) (SideSettled (view b) s j) (told s j o)
   side-says s j live none (inl under) = inl λ S m p.
       let (y, sum, l, _) = pushing-sum (view b) s j S m p in
       omega (whole, l, exceeds-beyond b h s j _ (pushing-bit s j) (boundAt s (timesOf b s) j) none under y sum, bound-is b s j)
@@ -119,7 +119,7 @@ side-searched {s} {j} {valids = valids} o g b h live _ =
 -- the view shows what R6 infers of job i, and R4 and R5 are settled there
 pub record JobSettled (v : View) (i : ℕ) : Type 0 where
   pub room : D v i <ℤ (E v i +ℤ L v i) → ⊥
-  pub settled : (s : Side) → Settled v s i
+  pub settled : (s : Side) → SideSettled v s i
 
 -- the numbers and words are those of the board
 pub record JobRead (b : Board) (earliest latest lengths : List ℤ) (before after : List ℕ) (valids : ℕ) : Type 0 where
@@ -154,16 +154,16 @@ module _ (b : Board) (i : ℕ) (live : Live (view b) i) where
   says-room e = (r6 i live (omega whole), λ m. live .1 (m .1))
 
   -- R5, where R6 and R4 find nothing
-  pub says-late : roomy (rowOf b i) ≡ true → Settled (view b) early i
-      → (o : Option Fact) → Searched (view b) (Settled (view b) late i) o → Searched (view b) (JobSettled (view b) i) o
+  pub says-late : roomy (rowOf b i) ≡ true → SideSettled (view b) early i
+      → (o : Option Fact) → Searched (view b) (SideSettled (view b) late i) o → Searched (view b) (JobSettled (view b) i) o
   says-late e x (some f) y = y
   says-late e x none y = record { room = λ l. omega whole; settled = side }
     where
-      side : (s : Side) → Settled (view b) s i
+      side : (s : Side) → SideSettled (view b) s i
       side early = x
       side late = y
 
 -- where nothing is found at any job, R4 to R6 are obeyed at each
-pub settled-obey : (b : Board) → Within b → ((i : ℕ) → Live (view b) i → JobSettled (view b) i) → JobsObey (view b)
-settled-obey b h jobs i live =
+pub jobs-settled-obey : (b : Board) → Within b → ((i : ℕ) → Live (view b) i → JobSettled (view b) i) → JobsObey (view b)
+jobs-settled-obey b h jobs i live =
     record { room = jobs i live .room; pushed = λ s. all-obeyed b h s (λ j l. jobs j l .settled s) i live }

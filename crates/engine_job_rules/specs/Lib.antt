@@ -1,3 +1,3 @@
 -- What a search says at one job.
-pub mod Settled
+pub mod SideSettled
 pub mod JobSearched

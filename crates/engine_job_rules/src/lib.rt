@@ -10,7 +10,7 @@ ghost use Prim.Native.Nat.{_<_};
 ghost use Rattle.paper_board.specs.Paper.Limits.{jobLimit};
 ghost use Rattle.paper_board.specs.Paper.Values.{sideOf};
 ghost use Rattle.engine_sums.specs.Sums.{Times, Lengths};
-ghost use Rattle.engine_findings.specs.Values.{inferredOf};
+ghost use Rattle.engine_findings.specs.InferredOf.{inferredOf};
 ghost use Rattle.engine_job_rules.specs.JobSearched.{SideSearched, JobSearched};
 
 // What the valid jobs on one side of a job infer of its window. Where another job represents it there, nothing is left to infer.

@@ -1,2 +1,2 @@
 -- The limits of a board as the code tests them.
-pub mod Limits
+pub mod LimitsTested

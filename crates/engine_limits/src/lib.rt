@@ -4,9 +4,9 @@ use engine_places::place_holds;
 use paper_board::Board;
 use paper_board::Books;
 ghost use mathlib.Core.Path.{_≡_};
-ghost use Rattle.paper_board.specs.Tests.Decides.{Decides};
-ghost use Rattle.paper_board.specs.Tests.Limits as limits;
-ghost use Rattle.engine_limits.specs.Limits as parts;
+ghost use Rattle.paper_board.specs.BoardTests.Decides.{Decides};
+ghost use Rattle.paper_board.specs.BoardTests.WithinLimits as limits;
+ghost use Rattle.engine_limits.specs.LimitsTested as parts;
 
 fn places_hold<'a>(
     jobs: usize,
@@ -17,7 +17,7 @@ fn places_hold<'a>(
     after: &'a [u64; Board::JOBS],
     before: &'a [u64; Board::JOBS],
 ) -> bool
-    ensures { λ r. ⌜ Decides r (parts.Places jobs (now (marks .entry)) (now (lengths .entry)) (now (earliest .entry)) (now (latest .entry)) (now (after .entry)) (now (before .entry))) ⌝ }
+    ensures { λ r. ⌜ Decides r (parts.EveryPlace jobs (now (marks .entry)) (now (lengths .entry)) (now (earliest .entry)) (now (latest .entry)) (now (after .entry)) (now (before .entry))) ⌝ }
 {
     for k in 0..Board::JOBS {
         if !place_holds(

@@ -18,10 +18,10 @@ use Rattle.ground_arithmetic.specs.Sum.{sum, total, total-member}
 use Rattle.ground_arithmetic.specs.Time.{Moderate, greater, greater-left, greater-right}
 use Rattle.paper_board.specs.Paper.View.{Side}
 use Rattle.paper_board.specs.Paper.Limits.{jobLimit, firstMinute}
-use Rattle.paper_board.specs.Tests.Bounds.{turned-time}
+use Rattle.paper_board.specs.BoardTests.BoundTime.{turned-time}
 use Rattle.engine_sums.specs.Sums.{boundAt, lengthAt, Times, Lengths, load, Sum, Exceeds}
-use Rattle.engine_sums.specs.Laws.{load-range}
-use Rattle.engine_sums.specs.Members.{total-without}
+use Rattle.engine_sums.specs.SumLaws.{load-range}
+use Rattle.engine_sums.specs.TotalWithout.{total-without}
 
 -- Of the jobs of the set that are not `left` no sum is above the end: x, no greater than the bound of each of some of these, with their lengths
 -- is no more.

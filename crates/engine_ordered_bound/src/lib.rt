@@ -14,7 +14,7 @@ ghost use mathlib.Core.Bool.{true};
 ghost use mathlib.Core.Option.{none};
 ghost use Rattle.ground_arithmetic.specs.Time.{Moderate};
 ghost use Rattle.paper_board.specs.Paper.Values as paper;
-ghost use Rattle.paper_board.specs.Tests.Sets.{Subset};
+ghost use Rattle.paper_board.specs.BoardTests.Sets.{Subset};
 ghost use Rattle.engine_sums.specs.Sums as sums;
 
 // Jobs of a set: those with a bound of `start` or more.

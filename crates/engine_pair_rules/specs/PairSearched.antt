@@ -17,7 +17,7 @@ use Rattle.paper_board.specs.Paper.Limits.{jobLimit}
 use Rattle.paper_board.specs.Paper.View.{View, Live, Valid, Arc}
 use Rattle.paper_board.specs.Paper.Facts.{Fact, is-arc, is-invalid}
 use Rattle.paper_rules.specs.Paper.Rules.{E, D, L}
-use Rattle.paper_board.specs.Tests.Decides.{Decides, retested, passed, failed, _and_, negated, eq, earlier}
+use Rattle.paper_board.specs.BoardTests.Decides.{Decides, retested, passed, failed, _and_, negated, eq, earlier}
 use Rattle.paper_rules.specs.Inference.Infers.{r1, r2, r3}
 use Rattle.engine_findings.specs.Searched.{Searched, PairObeys}
 

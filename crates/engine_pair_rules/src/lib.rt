@@ -9,7 +9,7 @@ ghost use lib.Signed.{ltZ};
 ghost use Rattle.ground_sets.specs.Bit.{bit};
 ghost use Rattle.ground_arithmetic.specs.Time.{Moderate};
 ghost use Rattle.paper_board.specs.Paper.Limits.{jobLimit};
-ghost use Rattle.engine_findings.specs.Values.{inferredOf};
+ghost use Rattle.engine_findings.specs.InferredOf.{inferredOf};
 ghost use Rattle.engine_pair_rules.specs.PairSearched.{PairSearched, PairTested, Unjoined};
 
 // R3: does k, started once i has ended, end too late?

@@ -17,7 +17,7 @@ use Rattle.ground_arithmetic.specs.Bools.{refuted, is-true}
 use Rattle.ground_arithmetic.specs.Linear.{whole, plus, minus}
 use Rattle.ground_arithmetic.specs.Time.{lesser, lesser-left, lesser-right}
 use Rattle.paper_board.specs.Paper.Limits.{jobLimit}
-use Rattle.paper_board.specs.Tests.Decides.{Decides, retested, _and_, negated, holds, eq}
+use Rattle.paper_board.specs.BoardTests.Decides.{Decides, retested, _and_, negated, holds, eq}
 use Rattle.engine_sums.specs.Sums.{lengthAt}
 
 pub or-parts : (a b : Bool) → (a || b) ≡ true → (a ≡ true) ⊎ (b ≡ true)
@@ -106,11 +106,11 @@ module _ (latest lengths : List ℤ) where
 -- ---- R1
 
 -- all jobs after m are in w
-abbrev pub Inside : List ℕ → ℕ → ℕ → Type 0
+abbrev Inside : List ℕ → ℕ → ℕ → Type 0
 Inside after m w = (c : ℕ) → bit (getD after m 0) c ≡ true → bit w c ≡ true
 
 -- x lies after a job of the set of which all jobs after it are in w
-abbrev pub Via : List ℕ → ℕ → ℕ → ℕ → Type 0
+abbrev Via : List ℕ → ℕ → ℕ → ℕ → Type 0
 Via after set w x = (m : ℕ) × (bit set m ≡ true) × (bit (getD after m 0) x ≡ true) × Inside after m w
 
 abbrev pub Reaches : List ℕ → ℕ → ℕ → Type 0
@@ -180,13 +180,13 @@ module _ {after : List ℕ} {set left all k others : ℕ} (p : Looked after set 
   look-falls = part-below rest left k (λ x e. still x .yes e .0 .0) (taken .member) (λ e. still k .yes e .0 .1 refl)
 
 -- there are arcs from i to all jobs after m
-abbrev pub Joins : List ℕ → ℕ → ℕ → ℕ → Type 0
-Joins afters i after m = (c : ℕ) → bit (getD afters m 0) c ≡ true → i ≢ c → bit after c ≡ true
+abbrev JoinsAll : List ℕ → ℕ → ℕ → ℕ → Type 0
+JoinsAll afters i after m = (c : ℕ) → bit (getD afters m 0) c ≡ true → i ≢ c → bit after c ≡ true
 
 -- there are arcs from i to all jobs after k, or k lies after such a job, valid and after i
 abbrev pub JoinKnown : List ℕ → ℕ → ℕ → ℕ → ℕ → Type 0
 JoinKnown afters i valids after k =
-    Joins afters i after k ⊎ ((m : ℕ) × (bit after m ≡ true) × (bit valids m ≡ true) × (bit (getD afters m 0) k ≡ true) × Joins afters i after m)
+    JoinsAll afters i after k ⊎ ((m : ℕ) × (bit after m ≡ true) × (bit valids m ≡ true) × (bit (getD afters m 0) k ≡ true) × JoinsAll afters i after m)
 
 abbrev pub JoinLeft : List ℕ → ℕ → ℕ → ℕ → ℕ → Type 0
 JoinLeft afters i valids after = Left (λ k. (bit after k ≡ true) × (bit valids k ≡ true)) (JoinKnown afters i valids after)
@@ -203,7 +203,7 @@ module _ (afters : List ℕ) (i valids after through : ℕ) (is : through ≡ in
         done = λ k l out. ⊎-elim (λ h. inl (joins k h)) (λ (m, t, e, h). let (a, v) = through-bit m .yes t in inr (m, a, v, e, joins m h)) (reaches k (through-bit k .show l));
       }
     where
-      joins : (m : ℕ) → Inside afters m onward → Joins afters i after m
+      joins : (m : ℕ) → Inside afters m onward → JoinsAll afters i after m
       joins m h c e ne =
           subset-yes jobLimit (without jobLimit onward i) after (without-lt jobLimit onward i fits) narrow empty c
           (retested (bit-without jobLimit onward i c fits place) (holds (bit onward c) and negated (eq i c)) .show (h c e, ne))

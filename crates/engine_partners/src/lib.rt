@@ -12,7 +12,7 @@ ghost use Rattle.ground_arithmetic.specs.Time.{Moderate};
 ghost use Rattle.paper_board.specs.Paper.Limits.{jobLimit};
 ghost use Rattle.engine_sums.specs.Sums.{Times, Lengths};
 ghost use Rattle.engine_partners.specs.Partners.{AllInTime, LateLeft, KeptApart, OrderLeft, Reaches, JoinLeft};
-ghost use Rattle.engine_partners.specs.Rows.{RowLeft};
+ghost use Rattle.engine_partners.specs.RowRead.{RowLeft};
 
 // The least of the latest starts of a set: no job of it ends too late after one that ends by then.
 pub fn latest_start(set: u64, latest: &[i32; Board::JOBS], lengths: &[i32; Board::JOBS]) -> i32

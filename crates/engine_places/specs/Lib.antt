@@ -1,2 +1,2 @@
 -- What a place of a board holds, as the code tests it.
-pub mod Places
+pub mod Place

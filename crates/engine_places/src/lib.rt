@@ -7,10 +7,10 @@ ghost use mathlib.Core.Path.{_≡_};
 ghost use mathlib.Core.Bool.{_&&_};
 ghost use Prim.Native.Nat.{_<_};
 ghost use Rattle.paper_board.specs.Paper.Limits.{jobLimit};
-ghost use Rattle.paper_board.specs.Tests.Decides.{Decides};
+ghost use Rattle.paper_board.specs.BoardTests.Decides.{Decides};
 ghost use Rattle.paper_board.specs.Paper.Tests as tests;
-ghost use Rattle.paper_board.specs.Tests.Limits as limits;
-ghost use Rattle.engine_places.specs.Places as parts;
+ghost use Rattle.paper_board.specs.BoardTests.WithinLimits as limits;
+ghost use Rattle.engine_places.specs.Place as parts;
 
 fn is_zero(z: i32) -> bool
     ensures { λ r. ⌜ r ≡ limits.isZero z ⌝ }

@@ -1,3 +1,3 @@
 -- Precedence propagation: windows moved by the jobs on one side of them.
-pub mod Bounds
+pub mod ModerateTime
 pub mod Precedence

@@ -20,17 +20,17 @@ use Rattle.paper_board.specs.Paper.Facts.{is-bound}
 use Rattle.paper_board.specs.Paper.Limits.{IsTime, Within}
 use Rattle.paper_board.specs.Paper.Values.{turned}
 use Rattle.paper_rules.specs.Inference.Infers.{Infers}
-use Rattle.paper_board.specs.Tests.Live.{live-show}
-use Rattle.paper_rules.specs.Update.Filled.{filled}
+use Rattle.paper_board.specs.BoardTests.Live.{live-show}
+use Rattle.paper_rules.specs.Update.ArraysWithin.{filled}
 use Rattle.paper_rules.specs.Update.Updates.{update, tighten}
-use Rattle.paper_rules.specs.Update.Reaches.{Reached, Reaches, reached-self, reaches-then, further}
+use Rattle.paper_rules.specs.Update.Derives.{Derived, Derives, derived-self, derives-then, derives-further}
 use Rattle.engine_sums.specs.Sums.{boundAt, lengthAt, Times, Lengths, Pushes}
-use Rattle.engine_sums.specs.Exact.{timesOf}
-use Rattle.engine_sums.specs.Laws.{turned-back, sum-range}
+use Rattle.engine_sums.specs.RaiseExact.{timesOf}
+use Rattle.engine_sums.specs.SumLaws.{turned-back, sum-range}
 use Rattle.engine_bound_beyond.specs.BoundBeyond.{pushing}
-use Rattle.engine_job_rules.specs.JobSearched.{wordsOf, beyond-bit, sum-infers}
-use Rattle.engine_exclusion.specs.Gone.{Gone, AllGone, Short, none-gone, only, both-gone, gone-before, gone-short}
-use Rattle.engine_precedence.specs.Bounds.{turned-moderate}
+use Rattle.engine_job_rules.specs.JobSearched.{sideWords, beyond-bit, sum-infers}
+use Rattle.engine_exclusion.specs.Gone.{Gone, AllGone, NoRoom, none-gone, only, both-gone, gone-before, gone-short}
+use Rattle.engine_precedence.specs.ModerateTime.{moderate-time}
 
 -- a board's times on the other side than s
 abbrev fixedOf : Board → Side → List ℤ
@@ -38,13 +38,13 @@ fixedOf b early = b .latest
 fixedOf b late = b .earliest
 
 -- the board b with other times on side s
-abbrev pub withTimes : Side → Board → List ℤ → Board
+abbrev withTimes : Side → Board → List ℤ → Board
 withTimes early b times = filled b (b .lengths) times (b .latest) (b .marks) (b .after) (b .before)
 withTimes late b times = filled b (b .lengths) (b .earliest) times (b .marks) (b .after) (b .before)
 
 -- On any board with the times `times` on side s of which P holds, inferences lead to the times `times'`.
 abbrev pub Raises : Side → (Board → Type 0) → List ℤ → List ℤ → Type 0
-Raises s P times times' = (b : Board) → Within (withTimes s b times) → P (withTimes s b times) → Reached (withTimes s b times) (withTimes s b times')
+Raises s P times times' = (b : Board) → Within (withTimes s b times) → P (withTimes s b times) → Derived (withTimes s b times) (withTimes s b times')
 
 -- on any such board the jobs of a set can't stay
 abbrev pub Shuts : Side → (Board → Type 0) → List ℤ → ℕ → Type 0
@@ -52,10 +52,10 @@ Shuts s P times stuck = (b : Board) → Within (withTimes s b times) → P (with
 
 -- the rest of the board as the code reads it: the times on the other side, the lengths, the words of the jobs beyond each job on
 -- side s, and valid jobs
-pub record Reads (s : Side) (fixed lengths : List ℤ) (beyond : List ℕ) (valids : ℕ) (b : Board) : Type 0 where
+pub record PrecedenceRead (s : Side) (fixed lengths : List ℤ) (beyond : List ℕ) (valids : ℕ) (b : Board) : Type 0 where
   pub is-fixed : fixedOf b s ≡ fixed
   pub is-lengths : b .lengths ≡ lengths
-  pub is-beyond : wordsOf b s ≡ beyond
+  pub is-beyond : sideWords b s ≡ beyond
   pub sound : (x : ℕ) → bit valids x ≡ true → Valid (view b) x
 
 -- R6: does a job of that length fit between the time t on side s and the other end of its window?
@@ -63,7 +63,7 @@ abbrev pub room : Side → ℤ → ℤ → ℤ → Bool
 room early t fixed length = leZ (t +ℤ length) fixed
 room late t fixed length = leZ (fixed +ℤ length) t
 
-short : (s : Side) (b : Board) (j : ℕ) (t : ℤ) → room s t (getD (fixedOf b s) j (pos 0)) (lengthAt (b .lengths) j) ≡ false → Short s t (view b) j
+short : (s : Side) (b : Board) (j : ℕ) (t : ℤ) → room s t (getD (fixedOf b s) j (pos 0)) (lengthAt (b .lengths) j) ≡ false → NoRoom s t (view b) j
 short early b j t e = omega whole
 short late b j t e = omega whole
 
@@ -74,14 +74,14 @@ beyond-live b h late j k arc = h .limits .arcs j k arc .0
 
 -- a bound that valid jobs leave is inferred
 pushes-infers : (b : Board) → Within b → (valids : ℕ) → ((x : ℕ) → bit valids x ≡ true → Valid (view b) x) → (s : Side) (j : ℕ) (z : ℤ)
-    → Pushes s (timesOf b s) (b .lengths) (pushing (wordsOf b s) valids j) j (some z) → Live (view b) j × Infers (view b) (is-bound s j z)
+    → Pushes s (timesOf b s) (b .lengths) (pushing (sideWords b s) valids j) j (some z) → Live (view b) j × Infers (view b) (is-bound s j z)
 pushes-infers b h valids sound s j z (sum, above) =
     let live = beyond-live b h s j (sum .first) (members (sum .first) (sum .inside (sum .first) (sum .member)) .1) in
-    (live, sum-infers b h s j (pushing (wordsOf b s) valids j) live members z sum above .0)
+    (live, sum-infers b h s j (pushing (sideWords b s) valids j) live members z sum above .0)
   where
-    members : (k : ℕ) → bit (pushing (wordsOf b s) valids j) k ≡ true → Valid (view b) k × Beyond (view b) s k j
+    members : (k : ℕ) → bit (pushing (sideWords b s) valids j) k ≡ true → Valid (view b) k × Beyond (view b) s k j
     members k e =
-        let word = getD (wordsOf b s) j 0 in
+        let word = getD (sideWords b s) j 0 in
         let (v, w) = and-parts (bit valids k) (bit word k) (sym (bit-intersection valids word k) ∙ e) in
         (sound k v, beyond-bit b h s j k .yes w)
 
@@ -100,66 +100,66 @@ times-are late b times = refl
 
 -- the times on side s are read by nothing else
 same-rest : (s : Side) (b : Board) (times times' : List ℤ) (fixed lengths : List ℤ) (beyond : List ℕ) (valids : ℕ)
-    → Reads s fixed lengths beyond valids (withTimes s b times) → Reads s fixed lengths beyond valids (withTimes s b times')
+    → PrecedenceRead s fixed lengths beyond valids (withTimes s b times) → PrecedenceRead s fixed lengths beyond valids (withTimes s b times')
 same-rest early b times times' fixed lengths beyond valids r =
     record { is-fixed = r .is-fixed; is-lengths = r .is-lengths; is-beyond = r .is-beyond; sound = r .sound }
 same-rest late b times times' fixed lengths beyond valids r =
     record { is-fixed = r .is-fixed; is-lengths = r .is-lengths; is-beyond = r .is-beyond; sound = r .sound }
 
 module _ (s : Side) (fixed lengths : List ℤ) (beyond : List ℕ) (valids : ℕ) (times : List ℤ) where
-  pub raises-none : Raises s (Reads s fixed lengths beyond valids) times times
-  raises-none b h p = reached-self (withTimes s b times) h
+  pub raises-none : Raises s (PrecedenceRead s fixed lengths beyond valids) times times
+  raises-none b h p = derived-self (withTimes s b times) h
 
   -- one bound more
-  pub raises-then : (times' : List ℤ) → Raises s (Reads s fixed lengths beyond valids) times times' → (j : ℕ) (t : ℤ)
+  pub raises-then : (times' : List ℤ) → Raises s (PrecedenceRead s fixed lengths beyond valids) times times' → (j : ℕ) (t : ℤ)
       → Pushes s times' lengths (pushing beyond valids j) j (some (turned s t))
       → room s t (getD fixed j (pos 0)) (lengthAt lengths j) ≡ true
-      → Raises s (Reads s fixed lengths beyond valids) times (set times' j t)
+      → Raises s (PrecedenceRead s fixed lengths beyond valids) times (set times' j t)
   raises-then times' run j t push fits b h p =
-      let reached = run b h p in
+      let derived = run b h p in
       let c = withTimes s b times' in
       let rest = same-rest s b times times' fixed lengths beyond valids p in
-      let pushed : Pushes s (timesOf c s) (c .lengths) (pushing (wordsOf c s) valids j) j (some (turned s t)) =
+      let pushed : Pushes s (timesOf c s) (c .lengths) (pushing (sideWords c s) valids j) j (some (turned s t)) =
       rw (times-are s b times', rest .is-lengths, rest .is-beyond) push in
-      let (live, infers) = pushes-infers c (reached .more .within) valids (rest .sound) s j (turned s t) pushed in
+      let (live, infers) = pushes-infers c (derived .more .within) valids (rest .sound) s j (turned s t) pushed in
       let above = is-true (ltZ (boundAt s times' j) (turned s t)) (λ e. omega (whole, push .1)) in
       let same = moved s b times' j t live above (rw (rest .is-fixed, rest .is-lengths) fits) in
-      subst (Reaches (withTimes s b times)) same (further (withTimes s b times) c reached (is-bound s j (turned s t)) infers)
+      subst (Derives (withTimes s b times)) same (derives-further (withTimes s b times) c derived (is-bound s j (turned s t)) infers)
 
-  pub shuts-none : Shuts s (Reads s fixed lengths beyond valids) times 0
+  pub shuts-none : Shuts s (PrecedenceRead s fixed lengths beyond valids) times 0
   shuts-none b h p = none-gone (withTimes s b times)
 
   -- a job that does not fit with its bound
   pub shuts-job : (j : ℕ) (t : ℤ) → Pushes s times lengths (pushing beyond valids j) j (some (turned s t))
       → room s t (getD fixed j (pos 0)) (lengthAt lengths j) ≡ false
-      → (it : ℕ) → it ≡ with 0 j → Shuts s (Reads s fixed lengths beyond valids) times it
+      → (it : ℕ) → it ≡ with 0 j → Shuts s (PrecedenceRead s fixed lengths beyond valids) times it
   shuts-job j t push full it e b h p =
       let c = withTimes s b times in
-      let pushed : Pushes s (timesOf c s) (c .lengths) (pushing (wordsOf c s) valids j) j (some (turned s t)) =
+      let pushed : Pushes s (timesOf c s) (c .lengths) (pushing (sideWords c s) valids j) j (some (turned s t)) =
       rw (times-are s b times, p .is-lengths, p .is-beyond) push in
       let (live, infers) = pushes-infers c h valids (p .sound) s j (turned s t) pushed in
       let gone : Gone c j = gone-short c s j t live infers (short s c j t (rw (p .is-fixed, p .is-lengths) full)) in
       record { gone = λ x m. subst (Gone c) (only j x (rw e at m)) gone }
 
   -- one run after another
-  pub raises-on : (times' times'' : List ℤ) → Raises s (Reads s fixed lengths beyond valids) times times'
-      → Raises s (Reads s fixed lengths beyond valids) times' times'' → Raises s (Reads s fixed lengths beyond valids) times times''
+  raises-on : (times' times'' : List ℤ) → Raises s (PrecedenceRead s fixed lengths beyond valids) times times'
+      → Raises s (PrecedenceRead s fixed lengths beyond valids) times' times'' → Raises s (PrecedenceRead s fixed lengths beyond valids) times times''
   raises-on times' times'' run more b h p =
-      let reached = run b h p in
-      let rest = more b (reached .more .within) (same-rest s b times times' fixed lengths beyond valids p) in
-      reaches-then (withTimes s b times) (withTimes s b times') reached (some (withTimes s b times'')) rest
+      let derived = run b h p in
+      let rest = more b (derived .more .within) (same-rest s b times times' fixed lengths beyond valids p) in
+      derives-then (withTimes s b times) (withTimes s b times') derived (some (withTimes s b times'')) rest
 
 -- some moves, and what can't stay, then more of both
 pub pushed-on : (s : Side) (fixed lengths : List ℤ) (beyond : List ℕ) (valids : ℕ) (times times' times'' : List ℤ) (first others all : ℕ)
-    → let read = Reads s fixed lengths beyond valids in
+    → let read = PrecedenceRead s fixed lengths beyond valids in
     Raises s read times times' → Shuts s read times first → Raises s read times' times'' × Shuts s read times' others → all ≡ union first others
     → Raises s read times times'' × Shuts s read times all
 pushed-on s fixed lengths beyond valids times times' times'' first others all run shut (more, later) e = (
   raises-on s fixed lengths beyond valids times times' times'' run more,
   λ b h p.
-      let reached = run b h p in
-      let before = gone-before (withTimes s b times) (withTimes s b times') reached others
-      (later b (reached .more .within) (same-rest s b times times' fixed lengths beyond valids p)) in
+      let derived = run b h p in
+      let before = gone-before (withTimes s b times) (withTimes s b times') derived others
+      (later b (derived .more .within) (same-rest s b times times' fixed lengths beyond valids p)) in
       both-gone (withTimes s b times) first others (shut b h p) before all e,
 )
 
@@ -170,7 +170,7 @@ pub pushed-moderate : (s : Side) {times lengths : List ℤ} (w j : ℕ) (t : ℤ
     → Pushes s times lengths w j (some (turned s t)) → Moderate t
 pushed-moderate s w j t hours work (sum, above) =
     let (low, high) = sum-range hours work sum in
-    turned-moderate s t (omega whole, omega whole)
+    moderate-time s t (omega whole, omega whole)
 
 -- a time stored among times
 pub times-set : (times : List ℤ) → Times times → (j : ℕ) (t : ℤ) → IsTime t → Times (set times j t)

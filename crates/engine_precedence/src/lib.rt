@@ -103,8 +103,8 @@ fn push_job<'a>(
 ) -> Pushed
     requires { ⌜ (job < jobLimit) × Times (now times) × Times (now fixed) × Lengths (now lengths) × Leaves (sideOf side) (now times) (now lengths) leading ⌝ }
     ensures { λ r. ⌜ Times (now (times .exit)) × SameBut job (now (times .entry)) (now (times .exit)) ⌝ }
-    ensures { λ r. ⌜ ((beyond : List ℕ) → LeadsTo leading beyond valid job → windows.Raises (sideOf side) (windows.Reads (sideOf side) (now (fixed .entry)) (now (lengths .entry)) beyond valid) (now (times .entry)) (now (times .exit))) ⌝ }
-    ensures { λ r. ⌜ ((beyond : List ℕ) → LeadsTo leading beyond valid job → windows.Shuts (sideOf side) (windows.Reads (sideOf side) (now (fixed .entry)) (now (lengths .entry)) beyond valid) (now (times .entry)) (r .stuck)) ⌝ }
+    ensures { λ r. ⌜ ((beyond : List ℕ) → LeadsTo leading beyond valid job → windows.Raises (sideOf side) (windows.PrecedenceRead (sideOf side) (now (fixed .entry)) (now (lengths .entry)) beyond valid) (now (times .entry)) (now (times .exit))) ⌝ }
+    ensures { λ r. ⌜ ((beyond : List ℕ) → LeadsTo leading beyond valid job → windows.Shuts (sideOf side) (windows.PrecedenceRead (sideOf side) (now (fixed .entry)) (now (lengths .entry)) beyond valid) (now (times .entry)) (r .stuck)) ⌝ }
 {
     let time = leading.time;
     if leading.set == 0 || !is_lower(side, times[job], time) {
@@ -135,8 +135,8 @@ pub fn push<'a>(
 ) -> Pushed
     requires { ⌜ Times (now times) × Times (now fixed) × Lengths (now lengths) ⌝ }
     ensures { λ r. ⌜ Times (now (times .exit)) ⌝ }
-    ensures { λ r. ⌜ windows.Raises (sideOf side) (windows.Reads (sideOf side) (now (fixed .entry)) (now (lengths .entry)) (now (beyond .entry)) valid) (now (times .entry)) (now (times .exit)) ⌝ }
-    ensures { λ r. ⌜ windows.Shuts (sideOf side) (windows.Reads (sideOf side) (now (fixed .entry)) (now (lengths .entry)) (now (beyond .entry)) valid) (now (times .entry)) (r .stuck) ⌝ }
+    ensures { λ r. ⌜ windows.Raises (sideOf side) (windows.PrecedenceRead (sideOf side) (now (fixed .entry)) (now (lengths .entry)) (now (beyond .entry)) valid) (now (times .entry)) (now (times .exit)) ⌝ }
+    ensures { λ r. ⌜ windows.Shuts (sideOf side) (windows.PrecedenceRead (sideOf side) (now (fixed .entry)) (now (lengths .entry)) (now (beyond .entry)) valid) (now (times .entry)) (r .stuck) ⌝ }
 {
     asked(order, side, set, valid, times);
     let mut all = unmoved();

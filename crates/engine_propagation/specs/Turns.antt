@@ -11,14 +11,14 @@ use Rattle.ground_arithmetic.specs.Bools.{and-parts}
 use Rattle.paper_board.specs.declared.Board.{Board}
 use Rattle.paper_board.specs.Paper.View.{Live, Valid, early, late, view}
 use Rattle.paper_board.specs.Paper.Limits.{jobLimit}
-use Rattle.paper_rules.specs.Update.Filled.{filled}
-use Rattle.paper_rules.specs.Update.Reaches.{Reached, reaches-then}
-use Rattle.paper_board.specs.Tests.Sets.{subset-difference}
+use Rattle.paper_rules.specs.Update.ArraysWithin.{filled}
+use Rattle.paper_rules.specs.Update.Derives.{Derived, derives-then}
+use Rattle.paper_board.specs.BoardTests.Sets.{subset-difference}
 use Rattle.engine_exclusion.specs.Gone.{AllGone, Crossed, Unfit, none-gone, both-gone, gone-before, crossed-gone, unfit-gone}
 use Rattle.engine_arcs.specs.Arcs.{Sound}
 use Rattle.engine_detection.specs.Detection.{AllLive}
 use Rattle.engine_transitivity.specs.Transitivity.{AllValid}
-use Rattle.engine_precedence.specs.Precedence.{Raises, Reads, Shuts}
+use Rattle.engine_precedence.specs.Precedence.{Raises, PrecedenceRead, Shuts}
 
 -- live jobs of the board and valid ones, and its arrays
 pub record Marked (live valids : ℕ) (earliest latest lengths : List ℤ) (b : Board) : Type 0 where
@@ -26,42 +26,42 @@ pub record Marked (live valids : ℕ) (earliest latest lengths : List ℤ) (b : 
   pub sound : AllValid valids b
 
 -- the board b with other windows and arcs
-abbrev pub tabled : Board → List ℤ → List ℤ → List ℕ → List ℕ → Board
+abbrev tabled : Board → List ℤ → List ℤ → List ℕ → List ℕ → Board
 tabled b earliest latest before after = filled b (b .lengths) earliest latest (b .marks) after before
 
 -- After some turns from the board b: the words are those of live and of valid jobs of b, and the arrays were reached from it.
 pub record Turns (b : Board) (live valids : ℕ) (earliest latest : List ℤ) (before after : List ℕ) : Type 0 where
   pub lives : (x : ℕ) → bit live x ≡ true → Live (view b) x
   pub sound : (x : ℕ) → bit valids x ≡ true → Valid (view b) x
-  pub reached : Reached b (tabled b earliest latest before after)
+  pub derived : Derived b (tabled b earliest latest before after)
 
 module _ (b : Board) (live valids : ℕ) (earliest latest : List ℤ) (before after : List ℕ) (h : Turns b live valids earliest latest before after) where
   abbrev at : Board
   at = tabled b earliest latest before after
 
   -- a run from there
-  on : (earliest' latest' : List ℤ) (before' after' : List ℕ) → Reached at (tabled b earliest' latest' before' after')
+  on : (earliest' latest' : List ℤ) (before' after' : List ℕ) → Derived at (tabled b earliest' latest' before' after')
       → Turns b live valids earliest' latest' before' after'
   on earliest' latest' before' after' run =
       let end = tabled b earliest' latest' before' after' in
-      record { lives = h .lives; sound = h .sound; reached = reaches-then b at (h .reached) (some end) run }
+      record { lives = h .lives; sound = h .sound; derived = derives-then b at (h .derived) (some end) run }
 
-  pub turn-arcs : (before' after' : List ℕ) → Sound (Marked live valids earliest latest (b .lengths)) before after before' after'
+  turn-arcs : (before' after' : List ℕ) → Sound (Marked live valids earliest latest (b .lengths)) before after before' after'
       → Turns b live valids earliest latest before' after'
   turn-arcs before' after' run =
-      on earliest latest before' after' (run at (h .reached .more .within)
+      on earliest latest before' after' (run at (h .derived .more .within)
       (record { lives = record { members = h .lives; read = record { is-earliest = refl; is-latest = refl; is-lengths = refl } }; sound = h .sound }))
 
-  pub turn-early : (times : List ℤ) → Raises early (Reads early latest (b .lengths) before valids) earliest times
+  turn-early : (times : List ℤ) → Raises early (PrecedenceRead early latest (b .lengths) before valids) earliest times
       → Turns b live valids times latest before after
   turn-early times run =
-      on times latest before after (run at (h .reached .more .within)
+      on times latest before after (run at (h .derived .more .within)
       (record { is-fixed = refl; is-lengths = refl; is-beyond = refl; sound = h .sound }))
 
-  pub turn-late : (times : List ℤ) → Raises late (Reads late earliest (b .lengths) after valids) latest times
+  turn-late : (times : List ℤ) → Raises late (PrecedenceRead late earliest (b .lengths) after valids) latest times
       → Turns b live valids earliest times before after
   turn-late times run =
-      on earliest times before after (run at (h .reached .more .within)
+      on earliest times before after (run at (h .derived .more .within)
       (record { is-fixed = refl; is-lengths = refl; is-beyond = refl; sound = h .sound }))
 
 -- where a turn leads, from any board
@@ -78,25 +78,25 @@ pub shut-none : (live valids : ℕ) (lengths earliest latest : List ℤ) (before
 shut-none live valids lengths earliest latest before after b same h = none-gone b
 
 pub shut-early : (live valids : ℕ) (lengths earliest latest : List ℤ) (before after : List ℕ) (stuck : ℕ)
-    → Shuts early (Reads early latest lengths before valids) earliest stuck → Shut live valids lengths earliest latest before after stuck
+    → Shuts early (PrecedenceRead early latest lengths before valids) earliest stuck → Shut live valids lengths earliest latest before after stuck
 shut-early live valids lengths earliest latest before after stuck shuts b same h =
     let at = tabled b earliest latest before after in
-    let read : Reads early latest lengths before valids at = record { is-fixed = refl; is-lengths = same; is-beyond = refl; sound = h .sound } in
-    gone-before b at (h .reached) stuck (shuts at (h .reached .more .within) read)
+    let read : PrecedenceRead early latest lengths before valids at = record { is-fixed = refl; is-lengths = same; is-beyond = refl; sound = h .sound } in
+    gone-before b at (h .derived) stuck (shuts at (h .derived .more .within) read)
 
 pub shut-late : (live valids : ℕ) (lengths earliest latest : List ℤ) (before after : List ℕ) (stuck : ℕ)
-    → Shuts late (Reads late earliest lengths after valids) latest stuck → Shut live valids lengths earliest latest before after stuck
+    → Shuts late (PrecedenceRead late earliest lengths after valids) latest stuck → Shut live valids lengths earliest latest before after stuck
 shut-late live valids lengths earliest latest before after stuck shuts b same h =
     let at = tabled b earliest latest before after in
-    let read : Reads late earliest lengths after valids at = record { is-fixed = refl; is-lengths = same; is-beyond = refl; sound = h .sound } in
-    gone-before b at (h .reached) stuck (shuts at (h .reached .more .within) read)
+    let read : PrecedenceRead late earliest lengths after valids at = record { is-fixed = refl; is-lengths = same; is-beyond = refl; sound = h .sound } in
+    gone-before b at (h .derived) stuck (shuts at (h .derived .more .within) read)
 
 -- R2
 pub shut-crossed : (live valids : ℕ) (lengths earliest latest : List ℤ) (before after : List ℕ) (w set found : ℕ) → set ≡ intersection w valids
     → Crossed before after set found → Shut live valids lengths earliest latest before after found
 shut-crossed live valids lengths earliest latest before after w set found e crossed b same h =
     let at = tabled b earliest latest before after in
-    gone-before b at (h .reached) found (crossed-gone at (h .reached .more .within) set found members crossed)
+    gone-before b at (h .derived) found (crossed-gone at (h .derived .more .within) set found members crossed)
   where
     members : (k : ℕ) → bit set k ≡ true → Valid (view b) k
     members k i = h .sound k (and-parts (bit w k) (bit valids k) (sym (bit-intersection w valids k) ∙ (rw e at i)) .1)
@@ -106,7 +106,7 @@ pub shut-unfit : (live valids : ℕ) (lengths earliest latest : List ℤ) (befor
     → Unfit earliest latest lengths set found → Shut live valids lengths earliest latest before after found
 shut-unfit live valids lengths earliest latest before after w set found e unfit b same h =
     let at = tabled b earliest latest before after in
-    gone-before b at (h .reached) found (unfit-gone at set found members (rw (← same) at unfit))
+    gone-before b at (h .derived) found (unfit-gone at set found members (rw (← same) at unfit))
   where
     members : (k : ℕ) → bit set k ≡ true → Live (view b) k
     members k i = h .lives k (and-parts (bit w k) (bit live k) (sym (bit-intersection w live k) ∙ (rw e at i)) .1)
@@ -116,7 +116,7 @@ pub stays : (live valids : ℕ) (lengths earliest latest : List ℤ) (before aft
 stays live valids lengths earliest latest before after b same h = h
 
 -- the arcs alone
-pub arcs-alone : (live valids : ℕ) (lengths earliest latest : List ℤ) (before after before' after' : List ℕ)
+arcs-alone : (live valids : ℕ) (lengths earliest latest : List ℤ) (before after before' after' : List ℕ)
     → Sound (Marked live valids earliest latest lengths) before after before' after'
     → Onward live valids lengths earliest latest before after earliest latest before' after'
 arcs-alone live valids lengths earliest latest before after before' after' arcs b same h =
@@ -139,13 +139,13 @@ arcs-joined live valids lengths earliest latest before after before' after' w th
 
 -- the windows on one side
 pub early-alone : (live valids : ℕ) (lengths earliest latest : List ℤ) (before after : List ℕ) (earliest' : List ℤ)
-    → Raises early (Reads early latest lengths before valids) earliest earliest'
+    → Raises early (PrecedenceRead early latest lengths before valids) earliest earliest'
     → Onward live valids lengths earliest latest before after earliest' latest before after
 early-alone live valids lengths earliest latest before after earliest' raised b same h =
     turn-early b live valids earliest latest before after h earliest' (rw (← same) at raised)
 
 pub late-alone : (live valids : ℕ) (lengths earliest latest : List ℤ) (before after : List ℕ) (latest' : List ℤ)
-    → Raises late (Reads late earliest lengths after valids) latest latest'
+    → Raises late (PrecedenceRead late earliest lengths after valids) latest latest'
     → Onward live valids lengths earliest latest before after earliest latest' before after
 late-alone live valids lengths earliest latest before after latest' lowered b same h =
     turn-late b live valids earliest latest before after h latest' (rw (← same) at lowered)
@@ -169,11 +169,11 @@ module _ (live rest valids : ℕ) (lengths earliest latest : List ℤ) (before a
   run-on earliest'' latest'' before'' after'' more rest' stuck' onward shut e d b same h =
       let (at, gone) = run b same h in
       let next = onward b same at in
-      (record { lives = λ x m. at .lives x (subset-difference rest more x (rw e at m)); sound = next .sound; reached = next .reached }, both-gone b stuck more gone (shut b same at) stuck' d)
+      (record { lives = λ x m. at .lives x (subset-difference rest more x (rw e at m)); sound = next .sound; derived = next .derived }, both-gone b stuck more gone (shut b same at) stuck' d)
 
   -- all of it
   pub run-onward : Onward live valids lengths earliest latest before after earliest' latest' before' after'
-  run-onward b same h = record { lives = h .lives; sound = h .sound; reached = run b same h .0 .reached }
+  run-onward b same h = record { lives = h .lives; sound = h .sound; derived = run b same h .0 .derived }
 
   pub run-shut : Shut live valids lengths earliest latest before after stuck
   run-shut b same h = run b same h .1

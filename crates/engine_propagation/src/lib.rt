@@ -26,7 +26,7 @@ ghost use Prim.Native.Nat.{ℕ};
 ghost use lib.IntN.{ℤ};
 ghost use Rattle.paper_board.specs.Paper.Values.{sideOf};
 ghost use Rattle.engine_sums.specs.Sums.{Times, Lengths};
-ghost use Rattle.engine_precedence.specs.Precedence.{Raises, Reads, Shuts};
+ghost use Rattle.engine_precedence.specs.Precedence.{Raises, PrecedenceRead, Shuts};
 ghost use Rattle.engine_propagation.specs.Turns.{Onward, Shut};
 
 // How many turns there are at the most. What they leave the search finds.
@@ -123,8 +123,8 @@ fn turn_side<'a>(
 ) -> Turned
     requires { ⌜ Times (now times) × Times (now fixed) × Lengths (now lengths) ⌝ }
     ensures { λ r. ⌜ Times (now (times .exit)) ⌝ }
-    ensures { λ r. ⌜ Raises (sideOf side) (Reads (sideOf side) (now (fixed .entry)) (now (lengths .entry)) (now (beyond .entry)) valid) (now (times .entry)) (now (times .exit)) ⌝ }
-    ensures { λ r. ⌜ Shuts (sideOf side) (Reads (sideOf side) (now (fixed .entry)) (now (lengths .entry)) (now (beyond .entry)) valid) (now (times .entry)) (r .stuck) ⌝ }
+    ensures { λ r. ⌜ Raises (sideOf side) (PrecedenceRead (sideOf side) (now (fixed .entry)) (now (lengths .entry)) (now (beyond .entry)) valid) (now (times .entry)) (now (times .exit)) ⌝ }
+    ensures { λ r. ⌜ Shuts (sideOf side) (PrecedenceRead (sideOf side) (now (fixed .entry)) (now (lengths .entry)) (now (beyond .entry)) valid) (now (times .entry)) (r .stuck) ⌝ }
 {
     let set = frontier(due_on(left, side), valid, beyond, opposite);
     let step = push(

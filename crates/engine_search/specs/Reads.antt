@@ -6,16 +6,16 @@ use Rattle.paper_board.specs.declared.Board.{Board}
 use Rattle.paper_board.specs.Paper.View.{early, late}
 use Rattle.paper_board.specs.Paper.Limits.{Within}
 use Rattle.engine_sums.specs.Sums.{Times, Lengths}
-use Rattle.engine_sums.specs.Exact.{times-within, lengths-within}
+use Rattle.engine_sums.specs.RaiseExact.{times-within, lengths-within}
 use Rattle.engine_marks.specs.Marked.{marked, unmarked, bit-valid, bit-live}
-use Rattle.engine_search.specs.PairsWalk.{Read}
+use Rattle.engine_search.specs.PairsWalk.{BoardRead}
 
 module _ (b : Board) (h : Within b) where
   pub arrays-hold : Times (b .earliest) × Times (b .latest) × Lengths (b .lengths)
   arrays-hold = (times-within b h early, times-within b h late, lengths-within b h)
 
   pub board-read : {lives valids : ℕ} → lives ≡ unmarked (b .jobs) (b .marks) 2 → valids ≡ marked (b .jobs) (b .marks) 1
-      → Read b lives valids (b .earliest) (b .latest) (b .lengths) (b .before) (b .after)
+      → BoardRead b lives valids (b .earliest) (b .latest) (b .lengths) (b .before) (b .after)
   board-read is-live is-valid =
       record {
         is-live = λ x. ap (λ w. bit w x) is-live ∙ bit-live b x;

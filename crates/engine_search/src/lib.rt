@@ -13,8 +13,8 @@ ghost use Prim.Native.Nat.{_<_};
 ghost use Rattle.paper_board.specs.Paper.Limits.{jobLimit};
 ghost use Rattle.paper_rules.specs.Inference.Infers.{Obeys};
 ghost use Rattle.engine_sums.specs.Sums.{Times, Lengths};
-ghost use Rattle.engine_findings.specs.Values.{inferredOf};
-ghost use Rattle.engine_partners.specs.Settled.{PairsSettled};
+ghost use Rattle.engine_findings.specs.InferredOf.{inferredOf};
+ghost use Rattle.engine_partners.specs.PairSettled.{PairsSettled};
 ghost use Rattle.engine_search.specs.PairsWalk.{ReadSearched, EarliestEnd, PairFound, JobsSettled};
 
 // A pair of jobs at which a rule applies, where there is one.

@@ -6,7 +6,7 @@ ghost use Rattle.paper_board.specs.declared.Board as boards;
 ghost use Rattle.paper_board.specs.Paper.Limits.{jobLimit};
 ghost use Rattle.paper_rules.specs.Update.Updates as updates;
 ghost use Rattle.paper_rules.specs.Update.Strike as struck;
-ghost use Rattle.paper_rules.specs.Update.Filled.{filled, Alters};
+ghost use Rattle.paper_rules.specs.Update.ArraysWithin.{filled, Alters};
 
 // What becomes of job k where a set is struck out: it loses all it has where it is of the set, else its arcs to the set's jobs.
 fn strike_at(

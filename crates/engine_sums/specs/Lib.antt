@@ -1,6 +1,6 @@
 -- The energy bound of R4 and R5: what it is, and that the code's way to it is exact.
 pub mod Sums
-pub mod Exact
-pub mod Laws
-pub mod Members
+pub mod RaiseExact
+pub mod SumLaws
+pub mod TotalWithout
 pub mod Single

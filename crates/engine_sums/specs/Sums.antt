@@ -75,7 +75,7 @@ pub record Sum (s : Side) (times lengths : List ℤ) (w : ℕ) (z : ℤ) : Type 
   pub is : z ≡ boundAt s times first +ℤ total jobLimit set (lengthAt lengths)
 
 -- the greatest number that has the property P
-abbrev pub Greatest : (ℤ → Type 0) → ℤ → Type 0
+abbrev Greatest : (ℤ → Type 0) → ℤ → Type 0
 Greatest P z = P z × ((y : ℤ) → P y → y ≤ℤ z)
 
 -- the greatest number that has the property P, where it is above `low`; none where no such number is above it

@@ -10,10 +10,10 @@ use Rattle.paper_board.specs.declared.Board.{Board}
 use Rattle.paper_board.specs.Paper.View.{Valid, Arc, view}
 use Rattle.paper_board.specs.Paper.Facts.{is-arc}
 use Rattle.paper_board.specs.Paper.Limits.{jobLimit, Within}
-use Rattle.paper_board.specs.Tests.Decides.{Decides, retested, _and_, negated, holds, eq}
-use Rattle.paper_board.specs.Tests.Ranges.{after-fits}
+use Rattle.paper_board.specs.BoardTests.Decides.{Decides, retested, _and_, negated, holds, eq}
+use Rattle.paper_board.specs.BoardTests.Ranges.{after-fits}
 use Rattle.paper_rules.specs.Inference.Infers.{Infers, r1}
-use Rattle.paper_rules.specs.Update.Reaches.{Reached}
+use Rattle.paper_rules.specs.Update.Derives.{Derived}
 use Rattle.engine_arcs.specs.Arcs.{withArcs, Sound, arc-stays, sound-link, sound-then}
 
 -- the jobs after `through` to which there is no arc from `from` yet
@@ -45,11 +45,11 @@ Forth i k b = Valid (view b) k × Arc (view b) i k
 module _ (before after before' after' : List ℕ) where
   -- R1, where arcs alone have been set since
   infers : (b : Board) → Within (withArcs b before after) → (from through : ℕ) → from < jobLimit → Forth from through (withArcs b before after)
-      → Reached (withArcs b before after) (withArcs b before' after') → (to : ℕ) → bit (missing after from through) to ≡ true
+      → Derived (withArcs b before after) (withArcs b before' after') → (to : ℕ) → bit (missing after from through) to ≡ true
       → Infers (view (withArcs b before' after')) (is-arc from to)
-  infers b within from through place (valid, forth) reached to member =
+  infers b within from through place (valid, forth) derived to member =
       let ((on, ne), _) = missing-is (withArcs b before after) within from through place to .yes member in
-      let stays = arc-stays b before after before' after' reached within in
+      let stays = arc-stays b before after before' after' derived within in
       let first = within .limits .arcs from through forth .0 in
       let last = within .limits .arcs through to on .1 in
       r1 from through to first valid last ne (stays from through forth) (stays through to on)
@@ -60,17 +60,17 @@ module _ (before after before' after' : List ℕ) where
       → after'' ≡ set after' from (with (getD after' from 0) to) → Sound (Forth from through) before after before'' after''
   joined from through place run to member before'' after'' e d =
       sound-link (Forth from through) before after before' after' run from to before'' after'' e d
-      λ b h p reached. infers b h from through place p reached to member
+      λ b h p derived. infers b h from through place p derived to member
 
   -- one job more, of those before
   pub row-joined : (through : ℕ) → Sound (Through through) before after before' after' → (from : ℕ) → bit (getD before through 0) from ≡ true
       → (before'' after'' : List ℕ) → Sound (Forth from through) before' after' before'' after'' → Sound (Through through) before after before'' after''
   row-joined through run from member before'' after'' rest =
       sound-then (Through through) before after before' after' run (Forth from through) before'' after'' rest
-      λ b h valid reached. (valid, arc-stays b before after before' after' reached h from through (sym (h .twice from through) ∙ member))
+      λ b h valid derived. (valid, arc-stays b before after before' after' derived h from through (sym (h .twice from through) ∙ member))
 
   -- one valid job more
   pub through-joined : (valids : ℕ) → Sound (AllValid valids) before after before' after' → (through : ℕ) → bit valids through ≡ true
       → (before'' after'' : List ℕ) → Sound (Through through) before' after' before'' after'' → Sound (AllValid valids) before after before'' after''
   through-joined valids run through member before'' after'' rest =
-      sound-then (AllValid valids) before after before' after' run (Through through) before'' after'' rest λ b h valid reached. valid through member
+      sound-then (AllValid valids) before after before' after' run (Through through) before'' after'' rest λ b h valid derived. valid through member

@@ -9,7 +9,7 @@ use paper_board::Board;
 ghost use Prim.Native.Nat.{_<_};
 ghost use lib.ListN.{getD};
 ghost use Rattle.paper_board.specs.Paper.Limits.{jobLimit};
-ghost use Rattle.paper_board.specs.Tests.Sets.{Subset};
+ghost use Rattle.paper_board.specs.BoardTests.Sets.{Subset};
 ghost use Rattle.engine_arcs.specs.Arcs.{Sound};
 ghost use Rattle.engine_transitivity.specs.Transitivity.{AllValid, Through, Forth};
 

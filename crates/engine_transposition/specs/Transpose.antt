@@ -15,8 +15,8 @@ use Rattle.ground_sets.specs.Bit.{bit, width, intersection}
 use Rattle.ground_sets.specs.BitLaws.{bit-xor, bit-intersection, bit-shift, bit-left, bit-left-low, bit-kept}
 use Rattle.ground_arithmetic.specs.Bools.{refuted, is-false, by-test}
 use Rattle.paper_board.specs.Paper.Tests.{implies}
-use Rattle.paper_board.specs.Tests.Limits.{all}
-use Rattle.paper_board.specs.Tests.Decides.{Decides, restated, holds, negated, implied, every, _and_, le, lt, eq}
+use Rattle.paper_board.specs.BoardTests.WithinLimits.{all}
+use Rattle.paper_board.specs.BoardTests.Decides.{Decides, restated, holds, negated, implied, every, _and_, le, lt, eq}
 
 -- ---- masks
 
@@ -43,7 +43,7 @@ decides-mask shift mask =
     (λ m. ((m .short, m .first), m .second))
 
 -- blocks of ones and blocks of zeros by turns, as wide as the shift
-abbrev pub maskOf : ℕ → ℕ
+abbrev maskOf : ℕ → ℕ
 maskOf shift = (2 ^ width - 1) / (2 ^ shift + 1)
 
 pub masks : (s : ℕ) → s < 6 → Mask (2 ^ s) (maskOf (2 ^ s))

@@ -18,8 +18,8 @@ ghost use Rattle.paper_board.specs.Paper.Limits.{jobLimit, Within};
 ghost use Rattle.paper_board.specs.Paper.Facts.{is-bound, is-valid, Known};
 ghost use Rattle.paper_board.specs.Paper.Values.{sideOf, turned, factOf};
 ghost use Rattle.paper_rules.specs.Update.Updates as updates;
-ghost use Rattle.paper_rules.specs.Update.Filled.{filled, possibly, ArraysWithin, Alters};
-ghost use Rattle.engine_updates.specs.Applicable.{Timely};
+ghost use Rattle.paper_rules.specs.Update.ArraysWithin.{filled, possibly, ArraysWithin, Alters};
+ghost use Rattle.engine_updates.specs.Applicable.{Applicable};
 
 // "Only an entry makes a job valid."
 fn validate(marks: &mut [u8; Board::JOBS], job: usize) -> bool
@@ -66,7 +66,7 @@ pub fn update(
     before: &mut [u64; Board::JOBS],
     fact: Fact,
 ) -> bool
-    requires { ⌜ ArraysWithin jobs (now lengths) (now earliest) (now latest) (now marks) (now after) (now before) × Known jobs (factOf fact) × Timely fact ⌝ }
+    requires { ⌜ ArraysWithin jobs (now lengths) (now earliest) (now latest) (now marks) (now after) (now before) × Known jobs (factOf fact) × Applicable fact ⌝ }
     ensures { λ r. ⌜ Alters jobs (λ c. updates.update c (factOf fact)) (now (lengths .entry)) (now (earliest .entry)) (now (latest .entry)) (now (marks .entry)) (now (after .entry)) (now (before .entry)) r (now (lengths .exit)) (now (earliest .exit)) (now (latest .exit)) (now (marks .exit)) (now (after .exit)) (now (before .exit)) ⌝ }
 {
     match fact {

@@ -21,25 +21,25 @@ sum zero f = pos 0
 sum (suc n) f = sum n f +ℤ f n
 
 -- f at the members of S, and 0 elsewhere
-abbrev pub chosen : (ℕ → Bool) → (ℕ → ℤ) → ℕ → ℤ
+abbrev chosen : (ℕ → Bool) → (ℕ → ℤ) → ℕ → ℤ
 chosen S f k = cond (S k) (f k) (pos 0)
 
 -- the sum of f k for each member k of S below n
 abbrev pub total : ℕ → (ℕ → Bool) → (ℕ → ℤ) → ℤ
 total n S f = sum n (chosen S f)
 
-pub sum-mono : (n : ℕ) (f g : ℕ → ℤ) → ((k : ℕ) → k < n → f k ≤ℤ g k) → sum n f ≤ℤ sum n g
+sum-mono : (n : ℕ) (f g : ℕ → ℤ) → ((k : ℕ) → k < n → f k ≤ℤ g k) → sum n f ≤ℤ sum n g
 unfolding sum
 sum-mono zero f g h = omega whole
 sum-mono (suc n) f g h =
     omega (whole, plus (sum n f) (f n), plus (sum n g) (g n), sum-mono n f g (λ k l. h k (omega arith)), h n (omega arith))
 
-pub sum-same : (n : ℕ) (f g : ℕ → ℤ) → ((k : ℕ) → k < n → f k ≡ g k) → sum n f ≡ sum n g
+sum-same : (n : ℕ) (f g : ℕ → ℤ) → ((k : ℕ) → k < n → f k ≡ g k) → sum n f ≡ sum n g
 unfolding sum
 sum-same zero f g h = refl
 sum-same (suc n) f g h = cc (sum-same n f g (λ k l. h k (omega arith)), h n (omega arith))
 
-pub sum-plus : (n : ℕ) (f g : ℕ → ℤ) → sum n (λ k. f k +ℤ g k) ≡ sum n f +ℤ sum n g
+sum-plus : (n : ℕ) (f g : ℕ → ℤ) → sum n (λ k. f k +ℤ g k) ≡ sum n f +ℤ sum n g
 unfolding sum
 sum-plus zero f g = refl
 sum-plus (suc n) f g =

@@ -67,7 +67,7 @@ bit-top w (suc k) low high =
 pub bit-zero : (k : ℕ) → bit 0 k ≡ false
 bit-zero k = bit-high 0 0 k (omega arith) (omega arith)
 
-pub bit-singleton : (j k : ℕ) → bit (singleton j) k ≡ eqb j k
+bit-singleton : (j k : ℕ) → bit (singleton j) k ≡ eqb j k
 unfolding singleton
 bit-singleton zero zero = bit-low 1
 bit-singleton zero (suc k) = sym (bit-half 1 k) ∙ bit-zero k ∙ sym (eqb·zero-suc k)
@@ -169,7 +169,7 @@ pub difference-lt : (n a b : ℕ) → a < 2 ^ n → difference n a b < 2 ^ n
 unfolding difference
 difference-lt n a b h = lt-of-le-of-lt (and-le-l a (2 ^ n - 1 - b)) h
 
-pub singleton-lt : (n j : ℕ) → j < n → singleton j < 2 ^ n
+singleton-lt : (n j : ℕ) → j < n → singleton j < 2 ^ n
 unfolding singleton
 singleton-lt n j h = pow-lt h
 

@@ -1,3 +1,3 @@
 -- A board and its limits as the paper has them, and what the tests of it decide.
 pub mod Paper
-pub mod Tests
+pub mod BoardTests

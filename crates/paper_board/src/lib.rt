@@ -1,4 +1,4 @@
-// The board of one dock as a struct by value, with the limits that belong to its type, and the refusals of the gate.
+// The board of one dock as a struct by value, with the limits that belong to its type, and the refusals of the table.
 ghost use mathlib.Core.Path.{_≡_};
 ghost use Rattle.paper_board.specs.Paper.Limits.{emptyBoard};
 ghost use Rattle.paper_board.specs.Paper.Parts.{emptyBooks};

@@ -11,18 +11,18 @@ use Rattle.paper_board.specs.Paper.View.{Valid, view}
 use Rattle.paper_board.specs.Paper.Facts.{Fact, Holds}
 use Rattle.paper_rules.specs.Inference.Infers.{Obeys}
 use Rattle.paper_board.specs.Paper.Limits.{Within}
-use Rattle.paper_rules.specs.Order.Laws.{holds-up}
+use Rattle.paper_rules.specs.Order.OrderLaws.{holds-up}
 use Rattle.paper_rules.specs.Inference.Forced.{forced, valid-live}
 use Rattle.paper_rules.specs.Update.Extension.{above-self, Extends}
-use Rattle.paper_rules.specs.Update.Compose.{extends-then, one-outcome}
+use Rattle.paper_rules.specs.Update.ExtendsThen.{extends-then, one-outcome}
 use Rattle.paper_rules.specs.Update.Updates.{update, _andThen_}
 use Rattle.paper_rules.specs.Update.Updated.{updated}
-use Rattle.paper_rules.specs.Update.Reaches.{infers-known}
+use Rattle.paper_rules.specs.Update.Derives.{infers-known}
 use Rattle.paper_closure.specs.Find.{find}
 use Rattle.paper_closure.specs.FindSound.{find-sound}
 use Rattle.paper_closure.specs.FindComplete.{find-complete}
 use Rattle.paper_closure.specs.Measure.{measure, measure-falls, measure-bound}
-use Rattle.paper_closure.specs.Closing.{close, closure}
+use Rattle.paper_closure.specs.Closure.{close, closure}
 
 -- the outcome of closing b: the least board above b that obeys the rules; or none, where no view above b does
 abbrev pub ClosedTo : Board → Option Board → Type 0

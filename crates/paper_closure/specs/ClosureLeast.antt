@@ -8,8 +8,8 @@ use Rattle.paper_board.specs.Paper.Limits.{Within, BooksWithin}
 use Rattle.paper_rules.specs.Paper.Entries.{Entries, shown}
 use Rattle.paper_rules.specs.Paper.Closed.{Least, Contradiction}
 use Rattle.paper_rules.specs.Order.Leastness.{below-least, impossible-contradiction}
-use Rattle.paper_rules.specs.Inference.Agrees.{obeys-rules}
-use Rattle.paper_closure.specs.Closing.{closure}
+use Rattle.paper_rules.specs.Inference.ObeysRules.{obeys-rules}
+use Rattle.paper_closure.specs.Closure.{closure}
 use Rattle.paper_closure.specs.Closes.{ClosedTo, closure-closes}
 
 abbrev pub LeastOrNone : Entries → Option Board → Type 0

@@ -9,7 +9,7 @@ use Rattle.paper_board.specs.Paper.View.{View, Side, early, late, bound}
 use Rattle.paper_board.specs.Paper.Facts.{Fact, is-arc, is-bound, is-invalid}
 use Rattle.paper_rules.specs.Paper.Rules.{energy}
 use Rattle.paper_board.specs.Paper.Tests.{live, valid}
-use Rattle.paper_board.specs.Tests.Live.{roomy}
+use Rattle.paper_board.specs.BoardTests.Live.{roomy}
 
 -- the fact, where the test holds
 unfoldable pub guard : Bool → Fact → Option Fact

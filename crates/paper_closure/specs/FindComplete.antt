@@ -15,7 +15,7 @@ use Rattle.paper_rules.specs.Inference.Infers.{Pushing, r1, r2, r3, r45, r6, Ob
 use Rattle.paper_rules.specs.Inference.SumBeyond.{SumBeyond, pushing-sum}
 use Rattle.paper_closure.specs.Find.{_orElse_, pushers, pushed, push, next, find}
 use Rattle.paper_closure.specs.FindTests.{room-is, exclude-is, order-is, join-is, pusher-is, push-is}
-use Rattle.paper_closure.specs.Search.{guard-none, orElse-none, first-none}
+use Rattle.paper_closure.specs.Finds.{guard-none, orElse-none, first-none}
 
 -- no part of `next` finds anything
 record Nothing (a b c d e f : Option Fact) : Type 0 where

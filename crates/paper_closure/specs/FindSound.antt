@@ -6,9 +6,8 @@ use Rattle.ground_arithmetic.specs.Linear.{whole}
 use Rattle.paper_board.specs.Paper.View.{View, Live, Valid, Arc, Side, early, late, bound, Beyond}
 use Rattle.paper_board.specs.Paper.Facts.{Fact, is-arc, is-invalid, Holds}
 use Rattle.paper_rules.specs.Inference.Infers.{Pushing, Infers, r1, r2, r3, r45, r6}
-use Rattle.paper_board.specs.Paper.Tests.{valid}
 use Rattle.paper_closure.specs.Find.{pushers, pushed, push, next, find}
-use Rattle.paper_closure.specs.Search.{Finds, guard-finds, _else_, first-finds}
+use Rattle.paper_closure.specs.Finds.{Finds, guard-finds, _else_, first-finds}
 use Rattle.paper_closure.specs.FindTests.{room-is, exclude-is, order-is, join-is, pusher-is, push-is}
 
 -- a rule infers it, and the view does not show it
@@ -23,7 +22,7 @@ module _ (v : View) where
   arc-unshown a b la lb none h = (h, λ m. none (m .2 la lb))
 
   -- the pushers of j are a set as R4 and R5 ask for
-  pub pushing : (s : Side) (x j : ℕ) → Valid v x → Beyond v s x j → Pushing v s j (pushers v s x j) (bound s (v .row x))
+  pushing : (s : Side) (x j : ℕ) → Valid v x → Beyond v s x j → Pushing v s j (pushers v s x j) (bound s (v .row x))
   pushing s x j vx bx =
       record {
         member = x;

@@ -10,10 +10,10 @@ use Rattle.ground_arithmetic.specs.Linear.{whole}
 use Rattle.paper_board.specs.Paper.View.{View, Live, Valid, Arc, Side, early, late, bound, Beyond}
 use Rattle.paper_rules.specs.Paper.Rules.{E, D, L}
 use Rattle.paper_board.specs.Paper.Tests.{live, valid}
-use Rattle.paper_board.specs.Tests.Live.{roomy}
-use Rattle.paper_board.specs.Tests.Decides.{Decides, _and_, negated, holds, eq, live-is, valid-is, at-most, earlier, not-at-most}
+use Rattle.paper_board.specs.BoardTests.Live.{roomy}
+use Rattle.paper_board.specs.BoardTests.Decides.{Decides, _and_, negated, holds, eq, live-is, valid-is, at-most, earlier, not-at-most}
 use Rattle.paper_closure.specs.Find.{beyond, tooLate, joined, pushers, pushed}
-use Rattle.paper_closure.specs.Search.{some-below}
+use Rattle.paper_closure.specs.Finds.{some-below}
 
 module _ (v : View) where
   beyond-is : (s : Side) (k j : ℕ) → Decides (beyond v s k j) (Beyond v s k j)
@@ -46,7 +46,7 @@ module _ (v : View) where
   order-is a b = live-is v a and live-is v b and differ a b and late-is a b and no-arc b a
 
   -- R1
-  abbrev pub Joined : ℕ → ℕ → Type 0
+  abbrev Joined : ℕ → ℕ → Type 0
   Joined a c = (b : ℕ) × (b < v .jobs) × ((Valid v b × Arc v a b) × Arc v b c)
 
   joined-is : (a c : ℕ) → Decides (joined v a c) (Joined a c)

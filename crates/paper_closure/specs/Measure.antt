@@ -14,13 +14,13 @@ use Rattle.paper_board.specs.Paper.View.{Row, View, Live, Arc, Invalid, Side, e
 use Rattle.paper_board.specs.Paper.Facts.{Fact, is-arc, is-bound, Holds}
 use Rattle.paper_rules.specs.Inference.Infers.{Infers, r1, r2, r3, r45, r6}
 use Rattle.paper_board.specs.Paper.Limits.{Fits, Within, jobLimit, lastMinute}
-use Rattle.paper_rules.specs.Order.Laws.{live-down, arc-up, bound-up}
+use Rattle.paper_rules.specs.Order.OrderLaws.{live-down, arc-up, bound-up}
 use Rattle.paper_rules.specs.Update.Extension.{Above}
 use Rattle.paper_board.specs.Paper.Tests.{live}
-use Rattle.paper_board.specs.Tests.Live.{live-yes, live-show}
-use Rattle.paper_board.specs.Tests.Decides.{Decides, _and_, negated, holds, live-is}
-use Rattle.paper_board.specs.Tests.Bounds.{bound-time}
-use Rattle.paper_closure.specs.Closing.{steps}
+use Rattle.paper_board.specs.BoardTests.Live.{live-yes, live-show}
+use Rattle.paper_board.specs.BoardTests.Decides.{Decides, _and_, negated, holds, live-is}
+use Rattle.paper_board.specs.BoardTests.BoundTime.{bound-time}
+use Rattle.paper_closure.specs.Closure.{steps}
 
 -- the minutes by which a bound can still rise
 abbrev slack : Side → Row → ℕ

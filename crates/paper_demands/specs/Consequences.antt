@@ -23,16 +23,16 @@ use Rattle.paper_board.specs.Paper.Parts.{withBooks, withTally}
 use Rattle.paper_rules.specs.Paper.Rules.{E, D}
 use Rattle.paper_rules.specs.Paper.Schedules.{Placing, Schedule}
 use Rattle.paper_board.specs.Paper.View.{View, Live, Valid, Invalid, Arc, view}
-use Rattle.paper_entries.specs.Paper.Answers.{no-number, replyOf, shows-row, rowReplyOf, shows-pair, pairReplyOf}
+use Rattle.paper_entries.specs.Paper.Replies.{no-number, replyOf, shows-row, rowReplyOf, shows-pair, pairReplyOf}
 use Rattle.paper_entries.specs.Paper.Enter.{acceptance, enter}
 use Rattle.paper_entries.specs.Paper.Entry.{Statement, Entry, other, number, entries, withEntry}
-use Rattle.paper_entries.specs.Paper.Exact.{Outcome}
-use Rattle.paper_entries.specs.Paper.Gate.{checks, gate}
+use Rattle.paper_entries.specs.Paper.Outcome.{Outcome}
+use Rattle.paper_entries.specs.Paper.Checks.{checks, firstRefusal}
 use Rattle.paper_entries.specs.Paper.Looking as Looking
 use Rattle.paper_entries.specs.Paper.Sequence.{Call, outcome, after, kept, accepted, impossibles, Each, finalBoard, acceptedBy}
-use Rattle.paper_entries.specs.Rearranged.{same-swapped, same-repeated}
-use Rattle.paper_plans.specs.Paper.Answers.{plan-found, plan-none, plan-spent, planReplyOf}
-use Rattle.paper_plans.specs.Paper.Exact.{IsBudget, triesTaken, ending}
+use Rattle.paper_entries.specs.SameSwapped.{same-swapped, same-repeated}
+use Rattle.paper_plans.specs.Paper.PlanReply.{plan-found, plan-none, plan-spent, planReplyOf}
+use Rattle.paper_plans.specs.Paper.WithinBudget.{IsBudget, triesTaken, withinBudget}
 use Rattle.paper_plans.specs.Paper.Planner.{validJobs, plan}
 use Rattle.paper_plans.specs.Paper.Tries.{tries}
 use Rattle.paper_requests.specs.Paper.Requests as Requests
@@ -58,12 +58,12 @@ module _ (demand : Demand1) where
 
   -- a check that is met gives the same number on any two boards in order with as many jobs
   pub number-of-jobs : (b c : Board) (q : Request) → InOrder b → InOrder c → b .jobs ≡ c .jobs → (r : Refusal)
-      → gate (checksOf (b .jobs) q) ≡ some r → refusal b q ≡ refusal c q
+      → firstRefusal (checksOf (b .jobs) q) ≡ some r → refusal b q ≡ refusal c q
   number-of-jobs b c q o o′ n r g =
-      demand .table b q o r g ∙ sym (demand .table c q o′ r (subst (λ k. gate (checksOf k q) ≡ some r) n g))
+      demand .table b q o r g ∙ sym (demand .table c q o′ r (subst (λ k. firstRefusal (checksOf k q) ≡ some r) n g))
 
   -- on a board in order a refusal other than 8 comes from a check that is met
-  pub by-a-check : (b : Board) (q : Request) → InOrder b → (r : ℕ) → refusal b q ≡ some r → r ≢ 8 → gate (checksOf (b .jobs) q) ≢ none
+  pub by-a-check : (b : Board) (q : Request) → InOrder b → (r : ℕ) → refusal b q ≡ some r → r ≢ 8 → firstRefusal (checksOf (b .jobs) q) ≢ none
   by-a-check b q o r e n g = ⊎-elim (λ h. clash (cc)) (λ h. n (cc)) (demand .passed b q o g)
 
   -- a refused call leaves the board equal to what it was, tally aside
@@ -116,15 +116,15 @@ module _ (es : Entries) (b : Board) (demand : Demand2 es b) where
   accepted-least e q = (closed-least _ _ (demand .least e q), demand .tally e q, demand .answer e q)
 
   -- no entry is accepted whose closure is a contradiction, and none is refused as impossible where a closed board exists
-  pub none-wrongly-accepted : (e : Entry) → gate (checks (b .jobs) e) ≡ none → refusal b (entry e) ≡ none → Contradiction (withEntry es e) → ⊥
+  pub none-wrongly-accepted : (e : Entry) → firstRefusal (checks (b .jobs) e) ≡ none → refusal b (entry e) ≡ none → Contradiction (withEntry es e) → ⊥
   none-wrongly-accepted e g q k = clash (cc (demand .impossible e g .1 k))
 
-  pub none-wrongly-refused : (e : Entry) → gate (checks (b .jobs) e) ≡ none → (c : Board) → Closed (withEntry es e) c
+  pub none-wrongly-refused : (e : Entry) → firstRefusal (checks (b .jobs) e) ≡ none → (c : Board) → Closed (withEntry es e) c
       → refusal b (entry e) ≢ some 8
   none-wrongly-refused e g c k q = demand .impossible e g .0 q c k
 
   -- any budget within its limits
-  pub plan-exactly : (z : ℤ) → IsBudget z → planReplyOf (plan b z) ≡ ending (view b) (number z) (tries (view b) (validJobs (view b)))
+  pub plan-exactly : (z : ℤ) → IsBudget z → planReplyOf (plan b z) ≡ withinBudget (view b) (number z) (tries (view b) (validJobs (view b)))
   plan-exactly = demand .plans
 
   -- the row of any job: what the call gives, and the sets before and after it

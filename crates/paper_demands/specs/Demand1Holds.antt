@@ -12,16 +12,16 @@ use Rattle.ground_arithmetic.specs.Bools.{clash, refuted, and-parts}
 use Rattle.paper_board.specs.declared.Board.{Board}
 use Rattle.paper_board.specs.declared.Refusal.{Refusal}
 use Rattle.paper_board.specs.Paper.Refusals.{numberOf}
-use Rattle.paper_closure.specs.Check.{passes}
-use Rattle.paper_closure.specs.Checked.{passes-closed}
+use Rattle.paper_closure.specs.Passes.{passes}
+use Rattle.paper_closure.specs.PassesClosed.{passes-closed}
 use Rattle.paper_entries.specs.declared.Answer.{Answer}
 use Rattle.paper_entries.specs.declared.Answer.the-variants as Answers
-use Rattle.paper_entries.specs.Answered.{lines, gate-line}
-use Rattle.paper_entries.specs.Exactly.{refused-board}
-use Rattle.paper_entries.specs.Paper.Answers.{no-number, replyOf}
+use Rattle.paper_entries.specs.AnsweredImpossible.{lines, refusal-line}
+use Rattle.paper_entries.specs.RefusedExactly.{refused-board}
+use Rattle.paper_entries.specs.Paper.Replies.{no-number, replyOf}
 use Rattle.paper_entries.specs.Paper.Enter.{counted, enter}
 use Rattle.paper_entries.specs.Paper.Entry.{arc, mark, cut, Entry, addition, other}
-use Rattle.paper_entries.specs.Paper.Gate.{gate}
+use Rattle.paper_entries.specs.Paper.Checks.{firstRefusal}
 use Rattle.paper_plans.specs.Paper.Lists.{among}
 use Rattle.paper_requests.specs.Paper.Requests.{Request, entry, row, pair, plan, Sort, an-addition, an-arc, a-mark, a-cut, a-row, a-pair, a-plan, sortOf, refusalsOf, checksOf, refusal, boardAfter}
 use Rattle.paper_demands.specs.Demands.{InOrder, Demand1}
@@ -65,10 +65,10 @@ all-have-0 a-plan = refl
 
 module _ (b : Board) (q : Request) where
   -- what a refusal by the table says
-  table-fits : (r : Refusal) → gate (checksOf (b .jobs) q) ≡ some r → (among (refusalsOf (sortOf q)) (numberOf r) ≡ true) × (numberOf r ≢ 0)
+  table-fits : (r : Refusal) → firstRefusal (checksOf (b .jobs) q) ≡ some r → (among (refusalsOf (sortOf q)) (numberOf r) ≡ true) × (numberOf r ≢ 0)
   unfolding fits
   table-fits r g =
-      let (own, nonzero) = and-parts (among (refusalsOf (sortOf q)) (numberOf r)) (not (eqb (numberOf r) 0)) (gate-line (fits (sortOf q)) (checksOf (b .jobs) q) r (lines-fit (b .jobs) q) g) in
+      let (own, nonzero) = and-parts (among (refusalsOf (sortOf q)) (numberOf r)) (not (eqb (numberOf r) 0)) (refusal-line (fits (sortOf q)) (checksOf (b .jobs) q) r (lines-fit (b .jobs) q) g) in
       (own, λ z. refuted (rw (eq-eqb (numberOf r) 0 z)) nonzero)
 
   own-number : (r : ℕ) → refusal b q ≡ some r → among (refusalsOf (sortOf q)) r ≡ true
@@ -77,7 +77,7 @@ module _ (b : Board) (q : Request) where
       is : (n : ℕ) → refusal b q ≡ some n → among (refusalsOf (sortOf q)) n ≡ true → among (refusalsOf (sortOf q)) r ≡ true
       is n e′ h = let same : n ≡ r = cc in subst (λ k. among (refusalsOf (sortOf q)) k ≡ true) same h
 
-      checked : passes b ≡ true → (o : Option Refusal) → gate (checksOf (b .jobs) q) ≡ o → among (refusalsOf (sortOf q)) r ≡ true
+      checked : passes b ≡ true → (o : Option Refusal) → firstRefusal (checksOf (b .jobs) q) ≡ o → among (refusalsOf (sortOf q)) r ≡ true
       checked p (some s) g = is (numberOf s) (refused-table b q s p g) (table-fits s g .0)
       checked p none g = go (passed-result b q p g)
         where
@@ -86,13 +86,13 @@ module _ (b : Board) (q : Request) where
           go (inr (i, h)) = is 8 i h
 
       go : (t : Bool) → passes b ≡ t → among (refusalsOf (sortOf q)) r ≡ true
-      go true p = checked p (gate (checksOf (b .jobs) q)) refl
+      go true p = checked p (firstRefusal (checksOf (b .jobs) q)) refl
       go false p = is 0 (refused-zero b q p) (all-have-0 (sortOf q))
 
   zero-exactly : (refusal b q ≡ some 0) ↔ (InOrder b → ⊥)
-  zero-exactly = (λ e c. forth e (passes-closed b .1 c) (gate (checksOf (b .jobs) q)) refl, λ n. back n (passes b) refl)
+  zero-exactly = (λ e c. forth e (passes-closed b .1 c) (firstRefusal (checksOf (b .jobs) q)) refl, λ n. back n (passes b) refl)
     where
-      forth : refusal b q ≡ some 0 → passes b ≡ true → (o : Option Refusal) → gate (checksOf (b .jobs) q) ≡ o → ⊥
+      forth : refusal b q ≡ some 0 → passes b ≡ true → (o : Option Refusal) → firstRefusal (checksOf (b .jobs) q) ≡ o → ⊥
       forth e p (some s) g = let z : numberOf s ≡ 0 = cc (refused-table b q s p g) in table-fits s g .1 z
       forth e p none g = go (passed-result b q p g)
         where

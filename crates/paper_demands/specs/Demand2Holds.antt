@@ -11,18 +11,18 @@ use Rattle.paper_rules.specs.Paper.Closed.{LeastClosed}
 use Rattle.paper_rules.specs.Paper.Entries.{Entries, shown}
 use Rattle.paper_board.specs.Paper.Limits.{BooksWithin}
 use Rattle.paper_board.specs.Paper.View.{view}
-use Rattle.paper_closure.specs.Check.{passes}
-use Rattle.paper_closure.specs.Checked.{passes-closed, obeys-passes}
+use Rattle.paper_closure.specs.Passes.{passes}
+use Rattle.paper_closure.specs.PassesClosed.{passes-closed, obeys-passes}
 use Rattle.paper_entries.specs.declared.Entered.{Entered}
-use Rattle.paper_entries.specs.Exactly.{outcome-exactly}
-use Rattle.paper_entries.specs.Paper.Answers.{replyOf}
+use Rattle.paper_entries.specs.RefusedExactly.{outcome-exactly}
+use Rattle.paper_entries.specs.Paper.Replies.{replyOf}
 use Rattle.paper_entries.specs.Paper.Enter.{acceptance, enter}
 use Rattle.paper_entries.specs.Paper.Entry.{Entry, entries, withEntry}
-use Rattle.paper_entries.specs.Paper.Exact.{Outcome, by-table, impossible, accepted}
+use Rattle.paper_entries.specs.Paper.Outcome.{Outcome, by-table, impossible, accepted}
 use Rattle.paper_entries.specs.Paper.Sequence.{Call, finalBoard, acceptedBy}
 use Rattle.paper_entries.specs.Reached.{Reached}
-use Rattle.paper_entries.specs.Stepped.{outcome, reached-shown}
-use Rattle.paper_plans.specs.Ends.{plan-ending}
+use Rattle.paper_entries.specs.EnterOutcome.{enter-outcome, reached-shown}
+use Rattle.paper_plans.specs.PlanEnding.{plan-ending}
 use Rattle.paper_requests.specs.Paper.Requests.{entryRefusal}
 use Rattle.paper_demands.specs.Demands.{InOrder, Demand2}
 use Rattle.paper_demands.specs.Held.{held}
@@ -44,7 +44,7 @@ accepts es b e _ (accepted g c l t) q = record { least = l; tally = ap (λ k. k 
 demand2 : (es : Entries) (b : Board) → Reached es b → Demand2 es b
 demand2 es b r =
     let p : passes b ≡ true = obeys-passes b (r .within) (r .books) (r .obeys) in
-    let ends : (e : Entry) → Outcome es b e (enter b e) = λ e. outcome es b e r in
+    let ends : (e : Entry) → Outcome es b e (enter b e) = λ e. enter-outcome es b e r in
     record {
       least = λ e q. accepts es b e (enter b e) (ends e) q .least;
       tally = λ e q. accepts es b e (enter b e) (ends e) q .tally;

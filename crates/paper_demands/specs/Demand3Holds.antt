@@ -11,7 +11,7 @@ use lib.IntN.{ℤ}
 use Rattle.ground_arithmetic.specs.Bools.{clash}
 use Rattle.paper_board.specs.declared.Board.{Board}
 use Rattle.paper_board.specs.declared.Books.{Books}
-use Rattle.paper_rules.specs.Inference.Agrees.{obeys-rules}
+use Rattle.paper_rules.specs.Inference.ObeysRules.{obeys-rules}
 use Rattle.paper_rules.specs.Inference.LeastClosed.{least-closed}
 use Rattle.paper_rules.specs.Order.Leastness.{impossible-contradiction}
 use Rattle.paper_rules.specs.Paper.Closed.{Least, Contradiction}
@@ -20,25 +20,25 @@ use Rattle.paper_board.specs.Paper.Limits.{BooksWithin, emptyBoard}
 use Rattle.paper_rules.specs.Paper.Rules.{Rules}
 use Rattle.paper_rules.specs.Paper.Schedules.{Placing, Schedule}
 use Rattle.paper_board.specs.Paper.View.{View, Live, Valid, Arc, view}
-use Rattle.paper_rules.specs.Schedule.Boards.{least-keeps, contradiction-unscheduled}
-use Rattle.paper_closure.specs.Check.{passes}
-use Rattle.paper_closure.specs.Checked.{passes-closed, passes-least, obeys-passes, empty-passes}
-use Rattle.paper_entries.specs.Answered.{answered-impossible}
-use Rattle.paper_entries.specs.HandedIn.{admissible-shown}
-use Rattle.paper_entries.specs.Listed.{agree-snoc, agreed}
-use Rattle.paper_entries.specs.Orderless.{least-orderless}
-use Rattle.paper_entries.specs.Paper.Answers.{no-number, replyOf}
+use Rattle.paper_rules.specs.Schedule.ScheduleClosed.{least-keeps, contradiction-unscheduled}
+use Rattle.paper_closure.specs.Passes.{passes}
+use Rattle.paper_closure.specs.PassesClosed.{passes-closed, passes-least, obeys-passes, empty-passes}
+use Rattle.paper_entries.specs.AnsweredImpossible.{answered-impossible}
+use Rattle.paper_entries.specs.HandedKeeps.{admissible-shown}
+use Rattle.paper_entries.specs.EntriesAgree.{agree-snoc, agreed}
+use Rattle.paper_entries.specs.LeastOrderless.{least-orderless}
+use Rattle.paper_entries.specs.Paper.Replies.{no-number, replyOf}
 use Rattle.paper_entries.specs.Paper.Enter.{enter}
 use Rattle.paper_entries.specs.Paper.Entry.{Entry, number, entries}
 use Rattle.paper_entries.specs.Paper.Sequence.{Call, finalBoard}
 use Rattle.paper_entries.specs.Played.{Held, admissible-snoc, each-held}
-use Rattle.paper_entries.specs.Stepped.{step, outcome, reached-least}
+use Rattle.paper_entries.specs.EnterOutcome.{step, enter-outcome, reached-least}
 use Rattle.paper_entries.specs.Tallied.{tallied}
-use Rattle.paper_plans.specs.Ends.{ending-spent, ending-found, ending-none, plan-ending, found-schedule, none-scheduled}
-use Rattle.paper_plans.specs.Paper.Answers.{plan-none, planReplyOf}
-use Rattle.paper_plans.specs.Paper.Exact.{IsBudget, taken, triesTaken, ending}
+use Rattle.paper_plans.specs.PlanEnding.{within-spent, within-found, within-none, plan-ending, found-schedule, none-scheduled}
+use Rattle.paper_plans.specs.Paper.PlanReply.{plan-none, planReplyOf}
+use Rattle.paper_plans.specs.Paper.WithinBudget.{IsBudget, taken, triesTaken, withinBudget}
 use Rattle.paper_plans.specs.Paper.Planner.{validJobs, plan}
-use Rattle.paper_plans.specs.Paper.Tries.{Outcome, found, none, tries}
+use Rattle.paper_plans.specs.Paper.Tries.{Ending, found, none, tries}
 use Rattle.paper_demands.specs.Demands.{InOrder, PlanFound, PlanEnds, Demand3}
 use Rattle.paper_demands.specs.Held.{held-empty, held}
 
@@ -62,32 +62,32 @@ contradicted b l e h q =
 
 -- the planner on the least closed board over some entries, by how its tries end
 module _ (es : Entries) (b : Board) (ok : Admissible es) (least : Least es b) (p : passes b ≡ true) (z : ℤ) (h : IsBudget z) where
-  says : planReplyOf (plan b z) ≡ ending (view b) (number z) (tries (view b) (validJobs (view b)))
+  says : planReplyOf (plan b z) ≡ withinBudget (view b) (number z) (tries (view b) (validJobs (view b)))
   says = plan-ending b p z h
 
-  none-exactly : (o : Outcome) → tries (view b) (validJobs (view b)) ≡ o → taken o ≤ number z
-      → (ending (view b) (number z) o ≡ plan-none (taken o)) ↔ ((s : Placing) → Schedule es s → ⊥)
+  none-exactly : (o : Ending) → tries (view b) (validJobs (view b)) ≡ o → taken o ≤ number z
+      → (withinBudget (view b) (number z) o ≡ plan-none (taken o)) ↔ ((s : Placing) → Schedule es s → ⊥)
   none-exactly (found t ps) e l =
-      (λ q. clash (cc (ending-found (view b) (number z) t ps l)), λ n. absurd (n _ (found-schedule es b least t ps e)))
-  none-exactly (none t) e l = (λ q. none-scheduled es b least ok t e, λ n. ending-none (view b) (number z) t l)
+      (λ q. clash (cc (within-found (view b) (number z) t ps l)), λ n. absurd (n _ (found-schedule es b least t ps e)))
+  none-exactly (none t) e l = (λ q. none-scheduled es b least ok t e, λ n. within-none (view b) (number z) t l)
 
-  finds : (o : Outcome) → tries (view b) (validJobs (view b)) ≡ o → taken o ≤ number z
-      → (ending (view b) (number z) o ≡ plan-none (taken o) → ⊥) → PlanFound es b z
+  finds : (o : Ending) → tries (view b) (validJobs (view b)) ≡ o → taken o ≤ number z
+      → (withinBudget (view b) (number z) o ≡ plan-none (taken o) → ⊥) → PlanFound es b z
   finds (found t ps) e l some =
       let same : t ≡ triesTaken (view b) = ap taken (sym e) in
       record {
         jobs = ps;
         tried = e ∙ ap (λ n. found n ps) same;
-        given = says ∙ ap (ending (view b) (number z)) e ∙ ending-found (view b) (number z) t ps l ∙ rw same;
+        given = says ∙ ap (withinBudget (view b) (number z)) e ∙ within-found (view b) (number z) t ps l ∙ rw same;
         schedule = found-schedule es b least t ps e;
       }
-  finds (none t) e l some = absurd (some (ending-none (view b) (number z) t l))
+  finds (none t) e l some = absurd (some (within-none (view b) (number z) t l))
 
   plan-ends : PlanEnds es b z
   plan-ends =
       let o = tries (view b) (validJobs (view b)) in
       record {
-        spent = rw says (ending-spent (view b) (number z) o);
+        spent = rw says (within-spent (view b) (number z) o);
         none = λ l. rw says (none-exactly o refl l);
         found = λ l n. finds o refl l λ q. n (says ∙ q);
       }
@@ -109,7 +109,7 @@ demand3 books fits cs =
       inOrder = passes-least (finalBoard books cs) p .closed;
       nothingLost = least-keeps _ _ (h .admissible) least;
       joined = join _ (obeys-rules _ (r .obeys));
-      answers = each-held _ (λ b l c h. outcome _ _ (c .entry) (h .reached)) (emptyBoard books) [] cs (held-empty books fits);
+      answers = each-held _ (λ b l c h. enter-outcome _ _ (c .entry) (h .reached)) (emptyBoard books) [] cs (held-empty books fits);
       impossible = each-held _ (λ b l c h. contradicted b l (c .entry) h) (emptyBoard books) [] cs (held-empty books fits);
       orderless = λ books′ cs′ fits′ same. least-orderless _ _ _ _ same least (reached-least _ _ (held books′ fits′ cs′ .reached));
       planner = plan-ends _ _ (h .admissible) least p;

@@ -16,14 +16,14 @@ use Rattle.paper_rules.specs.Paper.Closed.{Closed, LeastClosed, Contradiction}
 use Rattle.paper_rules.specs.Paper.Schedules.{Placing, Schedule, Keeps}
 use Rattle.paper_board.specs.Paper.Equality.{Same}
 use Rattle.paper_entries.specs.Paper.Entry.{Entry, number, entries, SameEntries, withEntry}
-use Rattle.paper_entries.specs.Paper.Gate.{checks, gate}
+use Rattle.paper_entries.specs.Paper.Checks.{checks, firstRefusal}
 use Rattle.paper_entries.specs.Paper.Enter.{acceptance, counted, enter}
-use Rattle.paper_entries.specs.Paper.Answers.{no-number, replyOf, rowReplyOf, pairReplyOf}
-use Rattle.paper_entries.specs.Paper.Exact.{Outcome}
+use Rattle.paper_entries.specs.Paper.Replies.{no-number, replyOf, rowReplyOf, pairReplyOf}
+use Rattle.paper_entries.specs.Paper.Outcome.{Outcome}
 use Rattle.paper_entries.specs.Paper.Looking as Looking
 use Rattle.paper_entries.specs.Paper.Sequence.{Call, outcome, finalBoard, acceptedBy, impossibles, Each}
-use Rattle.paper_plans.specs.Paper.Answers.{plan-found, plan-none, plan-spent, planReplyOf}
-use Rattle.paper_plans.specs.Paper.Exact.{IsBudget, triesTaken, ending}
+use Rattle.paper_plans.specs.Paper.PlanReply.{plan-found, plan-none, plan-spent, planReplyOf}
+use Rattle.paper_plans.specs.Paper.WithinBudget.{IsBudget, triesTaken, withinBudget}
 use Rattle.paper_plans.specs.Paper.Tries as Tries
 use Rattle.paper_plans.specs.Paper.Tries.{planOf, tries}
 use Rattle.paper_plans.specs.Paper.Planner as Planner
@@ -47,9 +47,9 @@ pub record Demand1 : Type 0 where
   -- agree, or isn't closed over what it shows"
   pub board : (b : Board) (q : Request) → (refusal b q ≡ some 0) ↔ (InOrder b → ⊥)
   -- otherwise the first check that the call meets; and where it meets none, a result or 8
-  pub table : (b : Board) (q : Request) → InOrder b → (r : Refusal) → gate (checksOf (b .jobs) q) ≡ some r
+  pub table : (b : Board) (q : Request) → InOrder b → (r : Refusal) → firstRefusal (checksOf (b .jobs) q) ≡ some r
       → refusal b q ≡ some (numberOf r)
-  pub passed : (b : Board) (q : Request) → InOrder b → gate (checksOf (b .jobs) q) ≡ none → (refusal b q ≡ none) ⊎ (refusal b q ≡ some 8)
+  pub passed : (b : Board) (q : Request) → InOrder b → firstRefusal (checksOf (b .jobs) q) ≡ none → (refusal b q ≡ none) ⊎ (refusal b q ≡ some 8)
   -- "a refusal leaves the board equal to what it was, but for the tally of impossible entries": one more, stopped at its limit
   pub kept : (b : Board) (q : Request) (r : ℕ) → refusal b q ≡ some r → r ≢ 8 → boardAfter b q ≡ b
   pub oneMore : (b : Board) (q : Request) → refusal b q ≡ some 8 → boardAfter b q ≡ counted b
@@ -63,13 +63,13 @@ pub record Demand2 (es : Entries) (b : Board) : Type 0 where
   -- an addition "gives the job's number"
   pub answer : (e : Entry) → refusal b (entry e) ≡ none → enter b e .answer ≡ acceptance (b .jobs) e
   -- "an entry that passes the earlier checks is refused as impossible exactly when that closure is a contradiction"
-  pub impossible : (e : Entry) → gate (checks (b .jobs) e) ≡ none → (refusal b (entry e) ≡ some 8) ↔ Contradiction (withEntry es e)
+  pub impossible : (e : Entry) → firstRefusal (checks (b .jobs) e) ≡ none → (refusal b (entry e) ≡ some 8) ↔ Contradiction (withEntry es e)
   -- "views show that board"
   pub rows : (j : ℕ) → j < b .jobs → RowShows (view b) j (rowReplyOf (Looking.row b (pos j)))
   pub pairs : (x y : ℕ) → x < b .jobs → y < b .jobs → x ≢ y → PairShows (view b) x y (pairReplyOf (Looking.pair b (pos x) (pos y)))
   -- "the planner's plan, count and ending are those of the paper's tries"
   pub plans : (z : ℤ) → IsBudget z
-      → planReplyOf (Planner.plan b z) ≡ ending (view b) (number z) (tries (view b) (validJobs (view b)))
+      → planReplyOf (Planner.plan b z) ≡ withinBudget (view b) (number z) (tries (view b) (validJobs (view b)))
 
 -- "the plan of those tries, which is one of their schedules"
 pub record PlanFound (es : Entries) (b : Board) (z : ℤ) : Type 0 where

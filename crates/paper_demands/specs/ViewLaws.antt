@@ -15,12 +15,12 @@ use Rattle.paper_board.specs.declared.Board.{Board}
 use Rattle.paper_board.specs.Paper.Tests.{live}
 use Rattle.paper_board.specs.Paper.View.{View, view, arcOf}
 use Rattle.paper_rules.specs.Paper.Rules.{E, D}
-use Rattle.paper_board.specs.Tests.Live.{live-yes, live-show}
-use Rattle.paper_closure.specs.Check.{passes}
-use Rattle.paper_closure.specs.Checked.{passes-within}
-use Rattle.paper_entries.specs.Lines.{no-line, unmet}
-use Rattle.paper_entries.specs.Paper.Answers.{rowReplyOf, pairReplyOf}
-use Rattle.paper_entries.specs.Paper.Gate.{isJob, jobCheck, pairChecks, gate}
+use Rattle.paper_board.specs.BoardTests.Live.{live-yes, live-show}
+use Rattle.paper_closure.specs.Passes.{passes}
+use Rattle.paper_closure.specs.PassesClosed.{passes-within}
+use Rattle.paper_entries.specs.CheckLines.{no-line, unmet}
+use Rattle.paper_entries.specs.Paper.Replies.{rowReplyOf, pairReplyOf}
+use Rattle.paper_entries.specs.Paper.Checks.{isJob, jobCheck, pairChecks, firstRefusal}
 use Rattle.paper_entries.specs.Paper.Looking.{row, pairShown, pair}
 use Rattle.paper_demands.specs.Paper.Views.{RowShows, Arcs, no-arc, forth, back, both, Gap, PairShows}
 
@@ -29,10 +29,10 @@ use Rattle.paper_demands.specs.Paper.Views.{RowShows, Arcs, no-arc, fort
 job-known : (n j : ℕ) → j < n → isJob n (pos j) ≡ true
 job-known n j l = and-both (leZ (pos 0) (pos j)) (ltZ (pos j) (pos n)) (omega whole) (omega whole)
 
-job-passes : (n j : ℕ) → j < n → none ≡ gate (jobCheck n (pos j) ∷ [])
+job-passes : (n j : ℕ) → j < n → none ≡ firstRefusal (jobCheck n (pos j) ∷ [])
 job-passes n j l = no-line ∙ unmet (jobCheck n (pos j)) [] (rw (job-known n j l))
 
-pair-passes : (n x y : ℕ) → x < n → y < n → x ≢ y → none ≡ gate (pairChecks n (pos x) (pos y))
+pair-passes : (n x y : ℕ) → x < n → y < n → x ≢ y → none ≡ firstRefusal (pairChecks n (pos x) (pos y))
 pair-passes n x y l m ne =
     no-line ∙ unmet _ [] (is-false (eqZ (pos x) (pos y)) λ e. ne (omega (arith, eqZ-true (pos x) (pos y) e)))
     ∙ unmet _ _ (rw (job-known n x l, job-known n y m))

@@ -16,9 +16,9 @@ use Rattle.paper_board.specs.Paper.View.{Side}
 use Rattle.paper_board.specs.Paper.Facts.{Fact, is-bound, is-valid, is-invalid, Known}
 use Rattle.paper_board.specs.Paper.Limits.{Fits, jobLimit}
 use Rattle.paper_entries.specs.Paper.Entry.{Statement, arc, mark, cut, Entry, addition, other, number, addedRow, stated}
-use Rattle.paper_entries.specs.Paper.Gate.{Check, line, isJob, statementChecks, checks, gate}
-use Rattle.paper_entries.specs.Lines.{passed}
-use Rattle.paper_entries.specs.Numbers.{pair-numbers, mark-numbers, cut-numbers, addition-numbers}
+use Rattle.paper_entries.specs.Paper.Checks.{Check, line, isJob, statementChecks, checks, firstRefusal}
+use Rattle.paper_entries.specs.CheckLines.{passed}
+use Rattle.paper_entries.specs.CallNumbers.{pair-numbers, mark-numbers, cut-numbers, addition-numbers}
 
 -- facts about jobs of a board of n jobs, one and all
 abbrev pub KnownAll : ℕ → List Fact → Type 0
@@ -29,7 +29,7 @@ abbrev pub Allowed : ℕ → Entry → Type 0
 Allowed n (addition l e d m) = (n < jobLimit) × Fits (addedRow l e d m) × (number m ≤ 1)
 Allowed n (other s) = KnownAll n (stated s)
 
-known : (n : ℕ) (s : Statement) → gate (statementChecks n s) ≡ none → KnownAll n (stated s)
+known : (n : ℕ) (s : Statement) → firstRefusal (statementChecks n s) ≡ none → KnownAll n (stated s)
 known n (arc a b) g f i =
     let h = pair-numbers n a b g in
     subst⁻¹ (Known n) (List·Memᴰ·eq-of-singleton i) (h .first .high, h .second .high, h .different)
@@ -43,14 +43,14 @@ known n (cut j e d) g f i = ⊎-elim bound (λ i′. bound (List·Memᴰ·eq-of-
     bound : {s : Side} {z : ℤ} → f ≡ is-bound s (number j) z → Known n f
     bound is = subst⁻¹ (Known n) is (cut-numbers n j e d g .job .high)
 
-pub gate-allows : (n : ℕ) (e : Entry) → gate (checks n e) ≡ none → Allowed n e
-gate-allows n (addition l e d m) g =
+pub checks-allow : (n : ℕ) (e : Entry) → firstRefusal (checks n e) ≡ none → Allowed n e
+checks-allow n (addition l e d m) g =
     let h = addition-numbers n l e d m g in (
       h .room,
       record { length = h .length; earliest = h .window .earliest; latest = h .window .latest },
       omega (whole, none-below m (h .low)),
     )
-gate-allows n (other s) g = known n s g
+checks-allow n (other s) g = known n s g
 
 -- ---- on a board of more jobs
 
@@ -61,19 +61,19 @@ more-jobs n m le z t =
 
 -- check 2 with a weaker test
 weaker : (t u : Bool) (cs : List Check) → (t ≡ true → u ≡ true)
-    → gate (line Refused.Job (not t) ∷ cs) ≡ none → gate (line Refused.Job (not u) ∷ cs) ≡ none
-unfolding gate
+    → firstRefusal (line Refused.Job (not t) ∷ cs) ≡ none → firstRefusal (line Refused.Job (not u) ∷ cs) ≡ none
+unfolding firstRefusal
 weaker t u cs h g =
     let (m, rest) = passed (line Refused.Job (not t)) cs g in
     rw (h (not-false t m)) rest
 
 -- a statement that meets no refusal of the table meets none on a board of more jobs either
-pub gate-more : (n m : ℕ) → n ≤ m → (s : Statement) → gate (statementChecks n s) ≡ none → gate (statementChecks m s) ≡ none
-gate-more n m le (arc a b) g = weaker (isJob n a && isJob n b) (isJob m a && isJob m b) _ both g
+pub checks-more : (n m : ℕ) → n ≤ m → (s : Statement) → firstRefusal (statementChecks n s) ≡ none → firstRefusal (statementChecks m s) ≡ none
+checks-more n m le (arc a b) g = weaker (isJob n a && isJob n b) (isJob m a && isJob m b) _ both g
   where
     both : (isJob n a && isJob n b) ≡ true → (isJob m a && isJob m b) ≡ true
     both t =
         let (ja, jb) = and-parts (isJob n a) (isJob n b) t in
         and-both (isJob m a) (isJob m b) (more-jobs n m le a ja) (more-jobs n m le b jb)
-gate-more n m le (mark j k) g = weaker (isJob n j) (isJob m j) _ (more-jobs n m le j) g
-gate-more n m le (cut j x d) g = weaker (isJob n j) (isJob m j) _ (more-jobs n m le j) g
+checks-more n m le (mark j k) g = weaker (isJob n j) (isJob m j) _ (more-jobs n m le j) g
+checks-more n m le (cut j x d) g = weaker (isJob n j) (isJob m j) _ (more-jobs n m le j) g

@@ -5,17 +5,17 @@ use mathlib.Core.List.{List, [], _∷_}
 use Rattle.paper_board.specs.declared.Board.{Board}
 use Rattle.paper_board.specs.Paper.View.{view}
 use Rattle.paper_rules.specs.Paper.Entries.{shown, _⊑_}
-use Rattle.paper_rules.specs.Order.Laws.{⊑-trans}
-use Rattle.paper_closure.specs.Check.{passes}
-use Rattle.paper_closure.specs.Checked.{obeys-passes}
+use Rattle.paper_rules.specs.Order.OrderLaws.{⊑-trans}
+use Rattle.paper_closure.specs.Passes.{passes}
+use Rattle.paper_closure.specs.PassesClosed.{obeys-passes}
 use Rattle.paper_entries.specs.declared.Entered.{Entered}
 use Rattle.paper_entries.specs.Paper.Entry.{Entry}
 use Rattle.paper_entries.specs.Paper.Enter.{counted, enter}
-use Rattle.paper_entries.specs.Paper.Exact.{by-table, impossible, accepted}
+use Rattle.paper_entries.specs.Paper.Outcome.{by-table, impossible, accepted}
 use Rattle.paper_entries.specs.Paper.Sequence.{Call, after}
-use Rattle.paper_entries.specs.Made.{with-split}
+use Rattle.paper_entries.specs.ShowsEntry.{with-split}
 use Rattle.paper_entries.specs.Reached.{Reached, reached-counted}
-use Rattle.paper_entries.specs.Stepped.{Step, step, reached-shown}
+use Rattle.paper_entries.specs.EnterOutcome.{Step, step, reached-shown}
 
 -- c passes check 0 and shows what b shows
 pub record Later (b c : Board) : Type 0 where

@@ -1,9 +1,9 @@
 -- Document 01's calls as definitions: what a reader must believe.
 pub mod Entry
-pub mod Values
-pub mod Gate
+pub mod EntryOf
+pub mod Checks
 pub mod Enter
 pub mod Looking
-pub mod Answers
+pub mod Replies
 pub mod Sequence
-pub mod Exact
+pub mod Outcome

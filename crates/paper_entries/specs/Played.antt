@@ -7,14 +7,14 @@ use Rattle.paper_board.specs.declared.Board.{Board}
 use Rattle.paper_rules.specs.Paper.Entries.{Admissible}
 use Rattle.paper_entries.specs.declared.Entered.{Entered}
 use Rattle.paper_entries.specs.Paper.Entry.{Entry, addition, other, entries, withEntry}
-use Rattle.paper_entries.specs.Paper.Gate.{checks, gate}
-use Rattle.paper_entries.specs.Listed.{agree-snoc, agree-sym}
-use Rattle.paper_entries.specs.Allowed.{Allowed, gate-allows}
+use Rattle.paper_entries.specs.Paper.Checks.{checks, firstRefusal}
+use Rattle.paper_entries.specs.EntriesAgree.{agree-snoc, agree-sym}
+use Rattle.paper_entries.specs.Allowed.{Allowed, checks-allow}
 use Rattle.paper_entries.specs.Paper.Enter.{acceptance, enter}
 use Rattle.paper_entries.specs.Reached.{Reached, admissible-with, admissible-agree, reached-agree, reached-counted}
-use Rattle.paper_entries.specs.Stepped.{Step, step}
-use Rattle.paper_entries.specs.Paper.Exact.{by-table, impossible, accepted}
-use Rattle.paper_entries.specs.Paper.Answers.{replyOf}
+use Rattle.paper_entries.specs.EnterOutcome.{Step, step}
+use Rattle.paper_entries.specs.Paper.Outcome.{by-table, impossible, accepted}
+use Rattle.paper_entries.specs.Paper.Replies.{replyOf}
 use Rattle.paper_entries.specs.Paper.Sequence.{Call, outcome, after, kept, Each}
 use Rattle.paper_entries.specs.Paper.Sequence
 
@@ -30,10 +30,10 @@ accepted-kept n (other s) = refl
 
 module _ (l : List Entry) (b : Board) (h : Held l b) where
   -- an entry that meets none of the checks may follow the others
-  pub admissible-snoc : (e : Entry) → gate (checks (b .jobs) e) ≡ none → Admissible (entries (l ++ e ∷ []))
+  pub admissible-snoc : (e : Entry) → firstRefusal (checks (b .jobs) e) ≡ none → Admissible (entries (l ++ e ∷ []))
   admissible-snoc e g =
       admissible-agree (withEntry (entries l) e) (entries (l ++ e ∷ [])) (agree-sym _ _ (agree-snoc l e))
-      (admissible-with (entries l) e (h .admissible) (subst (λ n. Allowed n e) (h .reached .shows .count) (gate-allows (b .jobs) e g)))
+      (admissible-with (entries l) e (h .admissible) (subst (λ n. Allowed n e) (h .reached .shows .count) (checks-allow (b .jobs) e g)))
 
   one-more : (e : Entry) (x : Entered) → Step (entries l) b e x → Held (l ++ kept (replyOf (x .answer)) e) (x .board)
   one-more e _ (by-table r g) = rw append-nil h
@@ -47,7 +47,7 @@ module _ (l : List Entry) (b : Board) (h : Held l b) where
       })
 
   -- one call
-  pub called : (e : Entry) → Held (l ++ kept (replyOf (enter b e .answer)) e) (enter b e .board)
+  called : (e : Entry) → Held (l ++ kept (replyOf (enter b e .answer)) e) (enter b e .board)
   called e = one-more e (enter b e) (step (entries l) b e (h .reached))
 
 pub played : (l : List Entry) (b : Board) (cs : List Call) → Held l b → Held (l ++ Sequence.accepted b cs) (after b cs)

@@ -12,18 +12,18 @@ use Rattle.paper_board.specs.declared.Board.{Board}
 use Rattle.paper_board.specs.Paper.View.{Row, View, view}
 use Rattle.paper_board.specs.Paper.Facts.{Fact, Known}
 use Rattle.paper_rules.specs.Inference.Infers.{Obeys}
-use Rattle.paper_rules.specs.Inference.Known.{known-more}
+use Rattle.paper_rules.specs.Inference.KnownMore.{known-more}
 use Rattle.paper_rules.specs.Paper.Entries.{Entries, Admissible, Shows, shown}
 use Rattle.paper_board.specs.Paper.Limits.{jobLimit, Fits, Within, BooksWithin}
 use Rattle.paper_rules.specs.Order.Leastness.{Below, Impossible}
-use Rattle.paper_rules.specs.Order.Laws.{atLeast-up}
-use Rattle.paper_rules.specs.Update.Limits.{within-books, within-tally}
+use Rattle.paper_rules.specs.Order.OrderLaws.{atLeast-up}
+use Rattle.paper_rules.specs.Update.StoreWithin.{within-books, within-tally}
 use Rattle.paper_entries.specs.Paper.Entry.{Entry, addition, other, addedRow, stated, addRow, stating, withEntry}
-use Rattle.paper_entries.specs.Made.{ShowsEntry, with-split, with-join, with-jobs}
-use Rattle.paper_entries.specs.Listed.{Agree, agree-sym, agreed}
+use Rattle.paper_entries.specs.ShowsEntry.{ShowsEntry, with-split, with-join, with-jobs}
+use Rattle.paper_entries.specs.EntriesAgree.{EntriesAgree, agree-sym, agreed}
 use Rattle.paper_entries.specs.Allowed.{KnownAll, Allowed}
 use Rattle.paper_entries.specs.Paper.Enter.{counted}
-use Rattle.paper_entries.specs.Settles.{Settled, SettledTo}
+use Rattle.paper_entries.specs.ClosesWith.{ClosedWith, ClosedToWith}
 
 pub record Reached (es : Entries) (b : Board) : Type 0 where
   pub within : Within b
@@ -47,7 +47,7 @@ pub admissible-with : (es : Entries) (e : Entry) → Admissible es → Allowed (
 admissible-with es (addition l e d m) h ok = admissible-row es (addedRow l e d m) h (ok .0) (ok .1)
 admissible-with es (other s) h ok = admissible-stated es (stated s) h ok
 
-pub admissible-agree : (es es′ : Entries) → Agree es es′ → Admissible es → Admissible es′
+pub admissible-agree : (es es′ : Entries) → EntriesAgree es es′ → Admissible es → Admissible es′
 admissible-agree es es′ a h =
     record {
       jobs = omega (arith, a .jobs, h .jobs);
@@ -58,7 +58,7 @@ admissible-agree es es′ a h =
     }
 
 -- entries that agree reach the same boards
-pub reached-agree : (es es′ : Entries) (b : Board) → Agree es es′ → Reached es b → Reached es′ b
+pub reached-agree : (es es′ : Entries) (b : Board) → EntriesAgree es es′ → Reached es b → Reached es′ b
 reached-agree es es′ b a r =
     record {
       within = r .within;
@@ -73,7 +73,7 @@ module _ (es : Entries) (b : Board) (e : Entry) (r : Reached es b) where
   moved : (w : View) → ShowsEntry (es .jobs) e w → ShowsEntry (b .jobs) e w
   moved w s = subst⁻¹ (λ n. ShowsEntry n e w) (r .shows .count) s
 
-  pub reached-with : (c : Board) → Settled b e c → Reached (withEntry es e) c
+  pub reached-with : (c : Board) → ClosedWith b e c → Reached (withEntry es e) c
   reached-with c s =
       record {
         within = s .more .within;
@@ -91,7 +91,7 @@ module _ (es : Entries) (b : Board) (e : Entry) (r : Reached es b) where
             s .least w (r .below w h′ ob) ob (moved w k, ob);
       }
 
-  pub impossible-with : SettledTo b e none → Impossible (withEntry es e)
+  pub impossible-with : ClosedToWith b e none → Impossible (withEntry es e)
   impossible-with s w h ob =
       let (h′, k) = with-split es w e h in
       s w (r .below w h′ ob) ob (moved w k, ob)

@@ -10,16 +10,16 @@ use Rattle.paper_board.specs.Paper.Refusals.{numberOf}
 use Rattle.paper_board.specs.Paper.Limits.{tallyLimit}
 use Rattle.paper_board.specs.Paper.View.{view}
 use Rattle.paper_rules.specs.Paper.Entries.{shown}
-use Rattle.paper_closure.specs.Check.{passes}
-use Rattle.paper_closure.specs.Checked.{passes-books}
+use Rattle.paper_closure.specs.Passes.{passes}
+use Rattle.paper_closure.specs.PassesClosed.{passes-books}
 use Rattle.paper_entries.specs.declared.Entered.{Entered}
 use Rattle.paper_entries.specs.Paper.Entry.{Entry, addition, other}
 use Rattle.paper_entries.specs.Paper.Enter.{enter}
-use Rattle.paper_entries.specs.Paper.Exact.{Outcome, by-table, impossible, accepted}
-use Rattle.paper_entries.specs.Paper.Answers.{replyOf}
+use Rattle.paper_entries.specs.Paper.Outcome.{Outcome, by-table, impossible, accepted}
+use Rattle.paper_entries.specs.Paper.Replies.{replyOf}
 use Rattle.paper_entries.specs.Paper.Sequence.{Call, after, oneImpossible, impossibles}
-use Rattle.paper_entries.specs.Answered.{by-table-middle}
-use Rattle.paper_entries.specs.Stepped.{enter-checked}
+use Rattle.paper_entries.specs.AnsweredImpossible.{by-table-middle}
+use Rattle.paper_entries.specs.EnterOutcome.{enter-checked}
 use Rattle.paper_entries.specs.Later.{call-later}
 
 tallied-once : (b : Board) (e : Entry) (x : Entered) → b .books .tally ≤ tallyLimit → Outcome (shown (view b)) b e x

@@ -13,28 +13,28 @@ use Rattle.paper_board.specs.Paper.Facts.{is-arc, is-bound, Holds}
 use Rattle.paper_rules.specs.Paper.Entries.{Entries, shown}
 use Rattle.paper_rules.specs.Paper.Closed.{Least}
 use Rattle.paper_rules.specs.Inference.LeastClosed.{closed-least}
-use Rattle.paper_rules.specs.Order.Laws.{holds-up}
-use Rattle.paper_rules.specs.Order.Unique.{least-unique, equal-boards}
-use Rattle.paper_closure.specs.Check.{passes}
-use Rattle.paper_closure.specs.Checked.{passes-within, passes-least}
+use Rattle.paper_rules.specs.Order.OrderLaws.{holds-up}
+use Rattle.paper_rules.specs.Order.LeastUnique.{least-unique, equal-boards}
+use Rattle.paper_closure.specs.Passes.{passes}
+use Rattle.paper_closure.specs.PassesClosed.{passes-within, passes-least}
 use Rattle.paper_entries.specs.declared.Answer.the-variants as Answers
 use Rattle.paper_entries.specs.declared.Entered.{Entered}
 use Rattle.paper_entries.specs.Paper.Entry.{Statement, arc, cut, Entry, other, number, stated, withEntry}
-use Rattle.paper_entries.specs.Paper.Gate.{statementChecks, gate}
+use Rattle.paper_entries.specs.Paper.Checks.{statementChecks, firstRefusal}
 use Rattle.paper_entries.specs.Paper.Enter.{enter}
-use Rattle.paper_entries.specs.Paper.Exact.{Outcome, by-table, impossible, accepted}
+use Rattle.paper_entries.specs.Paper.Outcome.{Outcome, by-table, impossible, accepted}
 use Rattle.paper_entries.specs.Paper.Sequence.{Call, after}
-use Rattle.paper_entries.specs.Made.{HoldAll, with-split, with-join}
-use Rattle.paper_entries.specs.Allowed.{KnownAll, gate-allows, gate-more}
+use Rattle.paper_entries.specs.ShowsEntry.{HoldAll, with-split, with-join}
+use Rattle.paper_entries.specs.Allowed.{KnownAll, checks-allow, checks-more}
 use Rattle.paper_entries.specs.Later.{call-later, calls-later}
-use Rattle.paper_entries.specs.Stepped.{Step, step, reached-shown, enter-checked, enter-refused}
+use Rattle.paper_entries.specs.EnterOutcome.{Step, step, reached-shown, enter-checked, enter-refused}
 
 -- accepted without effect
 abbrev pub withoutEffect : Board → Entered
 withoutEffect b = record { answer = Answers.Accepted; board = b }
 
 -- a statement is accepted without effect where the board shows already what it states
-pub unaltered : (b : Board) (s : Statement) → passes b ≡ true → gate (statementChecks (b .jobs) s) ≡ none
+pub unaltered : (b : Board) (s : Statement) → passes b ≡ true → firstRefusal (statementChecks (b .jobs) s) ≡ none
     → HoldAll (stated s) (view b) → enter b (other s) ≡ withoutEffect b
 unaltered b s p g holds = ends (enter b (other s)) (enter-checked b (other s) p)
   where
@@ -67,7 +67,7 @@ unaltered b s p g holds = ends (enter b (other s)) (enter-checked b (other s) p)
 
 -- an accepted statement met no refusal, and its board shows it
 shown-after : (b : Board) (s : Statement) (x : Entered) → Step (shown (view b)) b (other s) x → x .answer ≡ Answers.Accepted
-    → (gate (statementChecks (b .jobs) s) ≡ none) × HoldAll (stated s) (view (x .board))
+    → (firstRefusal (statementChecks (b .jobs) s) ≡ none) × HoldAll (stated s) (view (x .board))
 shown-after b s _ (by-table r g) q = clash (cc)
 shown-after b s _ (impossible g i) q = clash (cc)
 shown-after b s _ (accepted g c r t) q = (g, with-split (shown (view b)) (view c) (other s) (r .shows .atLeast) .1)
@@ -89,7 +89,7 @@ repeated b s cs q =
     let rest = calls-later c cs (one .passes) in
     let (g, holds) = shown-after b s (enter b (other s)) (step (shown (view b)) b (other s) (reached-shown b p)) q in
     unaltered (after c cs) s (rest .passes)
-    (gate-more (b .jobs) _ (omega (arith, one .above .jobs, rest .above .jobs)) s g)
+    (checks-more (b .jobs) _ (omega (arith, one .above .jobs, rest .above .jobs)) s g)
     (λ f m. holds-up (view c) _ (rest .above) f (holds f m))
 
 -- ---- invalid jobs
@@ -114,6 +114,6 @@ counts v _ (cut-of j e d h) known f i = ⊎-elim bound (λ i′. bound (List·Me
     bound q = subst⁻¹ (Holds v) q (h .0, λ live. absurd (live .1 (h .1)))
 
 -- "its further arcs and cuts are accepted without effect", unless one of the checks 1 to 7 refuses them
-pub invalid-unaltered : (b : Board) (s : Statement) → passes b ≡ true → gate (statementChecks (b .jobs) s) ≡ none
+pub invalid-unaltered : (b : Board) (s : Statement) → passes b ≡ true → firstRefusal (statementChecks (b .jobs) s) ≡ none
     → NamesInvalid (view b) s → enter b (other s) ≡ withoutEffect b
-invalid-unaltered b s p g h = unaltered b s p g (counts (view b) s h (gate-allows (b .jobs) (other s) g))
+invalid-unaltered b s p g h = unaltered b s p g (counts (view b) s h (checks-allow (b .jobs) (other s) g))

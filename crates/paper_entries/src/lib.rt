@@ -3,7 +3,7 @@ use paper_board::Board;
 use paper_board::Refusal;
 ghost use mathlib.Core.Path.{_≡_};
 ghost use Rattle.paper_entries.specs.Paper.Entry as paper;
-ghost use Rattle.paper_entries.specs.Paper.Values.{entryOf};
+ghost use Rattle.paper_entries.specs.Paper.EntryOf.{entryOf};
 
 // An entry with any numbers.
 pub enum Entry {

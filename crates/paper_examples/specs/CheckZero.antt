@@ -15,12 +15,12 @@ use Rattle.paper_board.specs.declared.Board.{Board}
 use Rattle.paper_board.specs.Paper.Limits.{jobLimit}
 use Rattle.paper_board.specs.Paper.Parts.{ofParts, emptyBooks, withTally}
 use Rattle.paper_board.specs.Paper.Tests.{live, valid, between, implies}
-use Rattle.paper_board.specs.Tests.Limits.{all, isZero, fits, isZeroRow, full, shape, holdsJob, holdsNothing, joinable, agrees, withinLimits}
+use Rattle.paper_board.specs.BoardTests.WithinLimits.{all, isZero, fits, isZeroRow, full, shape, holdsJob, holdsNothing, joinable, agrees, withinLimits}
 use Rattle.paper_rules.specs.Update.Updates.{update, _andThen_}
 use Rattle.paper_closure.specs.Find.{guard, _orElse_, first, any, beyond, tooLate, joined, pushers, pushed, push, next, find}
-use Rattle.paper_closure.specs.Check.{nothingLeft, passes}
-use Rattle.paper_entries.specs.Paper.Answers.{replyOf}
-use Rattle.paper_entries.specs.Paper.Gate.{gate}
+use Rattle.paper_closure.specs.Passes.{nothingLeft, passes}
+use Rattle.paper_entries.specs.Paper.Replies.{replyOf}
+use Rattle.paper_entries.specs.Paper.Checks.{firstRefusal}
 use Rattle.paper_entries.specs.Paper.Enter.{updateAll, raw, closureWith, enter}
 use Rattle.paper_requests.specs.Paper.Requests.{entryRefusal}
 use Rattle.paper_requests.specs.SampleEntries.{marked}
@@ -86,7 +86,7 @@ withArcs fs ps = ofParts 3 lengths earliest latest marks fs ps emptyBooks
 
 -- ---- the table: boards inside and boards outside
 
-pub record Limit : Type 0 where
+record Limit : Type 0 where
   pub inside : List Board
   pub outside : List Board
 
@@ -204,5 +204,5 @@ counts t r u =
     gives (entryRefusal (replyOf (e .answer))) (some r) && eqb (e .board .books .tally) u
 
 limits-decided : (every decided (sizes ++ rows ++ blanks ++ arcs ++ closed) && counts 999999 8 1000000 && counts 1000000 8 1000000 && counts 1000001 0 1000001) ≡ true
-unfolding eqZ bit sum all implies between isZero fits isZeroRow full shape holdsJob holdsNothing joinable agrees withinLimits live valid update _andThen_ guard _orElse_ first any beyond tooLate joined pushers pushed push next find nothingLeft passes gate updateAll raw closureWith enter
+unfolding eqZ bit sum all implies between isZero fits isZeroRow full shape holdsJob holdsNothing joinable agrees withinLimits live valid update _andThen_ guard _orElse_ first any beyond tooLate joined pushers pushed push next find nothingLeft passes firstRefusal updateAll raw closureWith enter
 limits-decided = refl

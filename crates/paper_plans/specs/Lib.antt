@@ -3,13 +3,13 @@ pub mod Paper
 -- Lists of job numbers.
 pub mod ListLaws
 pub mod Unplaced
--- Outcomes of tries.
-pub mod OutcomeLaws
+-- Endings of tries.
+pub mod EndingLaws
 -- What is found is a schedule.
-pub mod Reached
-pub mod Sound
+pub mod SearchReaches
+pub mod TriesSound
 -- Where there is a schedule, a plan is found.
-pub mod Complete
+pub mod TriesComplete
 -- The planner's answer says whether the entries have a schedule.
 pub mod PlanLaws
-pub mod Ends
+pub mod PlanEnding

@@ -10,7 +10,7 @@ use lib.Dec.{ltb}
 use lib.ListN.{length}
 use borrow.Author.Tests.{eq-eqb, ne-eqb}
 use Rattle.ground_arithmetic.specs.Bools.{is-false, refuted}
-use Rattle.paper_board.specs.Tests.Decides.{Decides, holds, restated, retested, same-decision, passed, failed, _and_, lt}
+use Rattle.paper_board.specs.BoardTests.Decides.{Decides, holds, restated, retested, same-decision, passed, failed, _and_, lt}
 use Rattle.paper_plans.specs.Paper.Lists.{range, keep, every, among}
 
 -- ---- one job more
@@ -31,11 +31,11 @@ module _ (j : ℕ) (js : List ℕ) where
       go (yes d) = subst (λ (x : ℕ). among (j ∷ js) x ≡ true) d among-first
       go (no ne) = among-rest k ne ∙ e
 
-  pub keep-first : (t : ℕ → Bool) → t j ≡ true → keep t (j ∷ js) ≡ j ∷ keep t js
+  keep-first : (t : ℕ → Bool) → t j ≡ true → keep t (j ∷ js) ≡ j ∷ keep t js
   unfolding keep
   keep-first t e = rw e
 
-  pub keep-rest : (t : ℕ → Bool) → t j ≡ false → keep t (j ∷ js) ≡ keep t js
+  keep-rest : (t : ℕ → Bool) → t j ≡ false → keep t (j ∷ js) ≡ keep t js
   unfolding keep
   keep-rest t e = rw e
 
@@ -57,7 +57,7 @@ keep-among t (j ∷ js) k = go (t j) refl (ℕ-discrete j k) (keep-among t js k)
     go false e (yes d) ih = ih ∙ rw (← d, e)
     go false e (no ne) ih = rw (among-rest j js k ne) ih
 
-pub range-is : (i n k : ℕ) → Decides (among (range i n) k) ((i ≤ k) × (k < i + n))
+range-is : (i n k : ℕ) → Decides (among (range i n) k) ((i ≤ k) × (k < i + n))
 unfolding range
 range-is i zero k = retested (none-among k) (failed λ h. omega arith)
 range-is i (suc n) k = go (ℕ-discrete i k) (range-is (suc i) n k)

@@ -2,5 +2,5 @@
 pub mod Lists
 pub mod Tries
 pub mod Planner
-pub mod Answers
-pub mod Exact
+pub mod PlanReply
+pub mod WithinBudget

@@ -18,23 +18,23 @@ use Rattle.ground_arithmetic.specs.Bools.{and-parts, and-both, same-tests}
 use Rattle.paper_board.specs.Paper.View.{View, view}
 use Rattle.paper_board.specs.Paper.Limits.{jobLimit}
 use Rattle.paper_board.specs.Paper.Tests.{valid, between}
-use Rattle.paper_board.specs.Tests.Live.{valid-yes}
-use Rattle.paper_board.specs.Tests.LimitsDecided.{past, decides-between}
+use Rattle.paper_board.specs.BoardTests.Live.{valid-yes}
+use Rattle.paper_board.specs.BoardTests.LimitsDecided.{past, decides-between}
 use Rattle.paper_board.specs.declared.Board.{Board}
-use Rattle.paper_closure.specs.Check.{passes}
+use Rattle.paper_closure.specs.Passes.{passes}
 use Rattle.paper_entries.specs.Paper.Entry.{number}
-use Rattle.paper_entries.specs.Paper.Gate.{budgetLimit, budgetCheck, gate}
-use Rattle.paper_entries.specs.Lines.{no-line, unmet, passed}
+use Rattle.paper_entries.specs.Paper.Checks.{budgetLimit, budgetCheck, firstRefusal}
+use Rattle.paper_entries.specs.CheckLines.{no-line, unmet, passed}
 use Rattle.paper_plans.specs.declared.PlanAnswer.{PlanAnswer}
 use Rattle.paper_plans.specs.declared.PlanAnswer.the-variants as Answers
 use Rattle.paper_plans.specs.Paper.Lists.{range, among}
 use Rattle.paper_plans.specs.Paper.Tries as Tries
-use Rattle.paper_plans.specs.Paper.Tries.{Outcome, found, add, startAfter, startIn, planOf, tries}
-use Rattle.paper_plans.specs.Paper.Planner.{validJobs, placedWord, startList, unplanned, withPlan, answer, plan}
-use Rattle.paper_plans.specs.Paper.Answers.{placingOf}
-use Rattle.paper_plans.specs.Paper.Exact.{IsBudget}
+use Rattle.paper_plans.specs.Paper.Tries.{Ending, found, add, startAfter, startIn, planOf, tries}
+use Rattle.paper_plans.specs.Paper.Planner.{validJobs, placedWord, startList, unplanned, withPlan, plannedWithin, plan}
+use Rattle.paper_plans.specs.Paper.PlanReply.{placingOf}
+use Rattle.paper_plans.specs.Paper.WithinBudget.{IsBudget}
 use Rattle.paper_plans.specs.ListLaws.{Distinct, among-first, among-later, keep-among, below-among, keep-distinct, range-distinct}
-use Rattle.paper_plans.specs.Reached.{start-first, start-rest}
+use Rattle.paper_plans.specs.SearchReaches.{start-first, start-rest}
 
 -- ---- the jobs tried
 
@@ -62,7 +62,7 @@ module _ (v : View) where
   starts-length [] = length-replicate jobLimit (pos 0)
   starts-length (j ∷ ps) = length-set (startList v ps) j (startAfter v ps j) ∙ starts-length ps
 
-  pub start-read : (ps : List ℕ) → ((k : ℕ) → among ps k ≡ true → k < jobLimit) → (k : ℕ)
+  start-read : (ps : List ℕ) → ((k : ℕ) → among ps k ≡ true → k < jobLimit) → (k : ℕ)
       → getD (startList v ps) k (pos 0) ≡ startIn v ps k
   unfolding startList startIn
   start-read [] small k = go (decLt k jobLimit)
@@ -87,22 +87,22 @@ module _ (v : View) where
 
 -- the answer with a budget that is enough, and with one that is not
 module _ (v : View) (budget t : ℕ) where
-  pub found-in-budget : (ps : List ℕ) → t ≤ budget → answer v budget (found t ps) ≡ withPlan v (Answers.Found t) ps
+  pub found-in-budget : (ps : List ℕ) → t ≤ budget → plannedWithin v budget (found t ps) ≡ withPlan v (Answers.Found t) ps
   found-in-budget ps l = rw (le-leb t budget l)
 
-  pub none-in-budget : t ≤ budget → answer v budget (Tries.none t) ≡ unplanned (Answers.None t)
+  pub none-in-budget : t ≤ budget → plannedWithin v budget (Tries.none t) ≡ unplanned (Answers.None t)
   none-in-budget l = rw (le-leb t budget l)
 
-pub beyond-budget : (v : View) (budget : ℕ) (o : Outcome) → answer v budget (add (budget + 1) o) ≡ unplanned (Answers.Spent budget)
+pub beyond-budget : (v : View) (budget : ℕ) (o : Ending) → plannedWithin v budget (add (budget + 1) o) ≡ unplanned (Answers.Spent budget)
 unfolding add
 beyond-budget v budget (found u ps) = rw (lt-leb (budget + 1 + u) budget (omega arith))
 beyond-budget v budget (Tries.none u) = rw (lt-leb (budget + 1 + u) budget (omega arith))
 
--- a budget that the gate lets pass
-pub budget-within : (z : ℤ) → gate (budgetCheck z ∷ []) ≡ none → IsBudget z
+-- a budget that the check lets pass
+pub budget-within : (z : ℤ) → firstRefusal (budgetCheck z ∷ []) ≡ none → IsBudget z
 budget-within z e = decides-between (pos 0) budgetLimit z .yes (not-false (between (pos 0) budgetLimit z) (passed (budgetCheck z) [] e .0))
 
 pub plan-tries : (b : Board) (z : ℤ) → passes b ≡ true → between (pos 0) budgetLimit z ≡ true
-    → plan b z ≡ answer (view b) (number z) (tries (view b) (validJobs (view b)))
+    → plan b z ≡ plannedWithin (view b) (number z) (tries (view b) (validJobs (view b)))
 unfolding plan
 plan-tries b z handed-in e = rw (plan, handed-in, ← unmet (budgetCheck z) [] (rw e), ← no-line)

@@ -7,7 +7,7 @@ use lib.ListN.{length}
 use borrow.Author.Tests.{not-false}
 use Rattle.ground_arithmetic.specs.Bools.{is-false, refuted}
 use Rattle.paper_board.specs.Paper.View.{View, Arc}
-use Rattle.paper_board.specs.Tests.Decides.{Decides, holds, restated, retested, implied, negated, _and_}
+use Rattle.paper_board.specs.BoardTests.Decides.{Decides, holds, restated, retested, implied, negated, _and_}
 use Rattle.paper_board.specs.Paper.Tests.{implies}
 use Rattle.paper_plans.specs.Paper.Lists.{among}
 use Rattle.paper_plans.specs.Paper.Tries.{ready, unplaced}

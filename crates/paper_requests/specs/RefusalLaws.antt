@@ -13,16 +13,16 @@ use Rattle.paper_rules.specs.Paper.Entries.{shown}
 use Rattle.paper_board.specs.Paper.Refusals.{numberOf}
 use Rattle.paper_board.specs.Paper.Tests.{live}
 use Rattle.paper_board.specs.Paper.View.{View, view}
-use Rattle.paper_closure.specs.Check.{passes}
+use Rattle.paper_closure.specs.Passes.{passes}
 use Rattle.paper_entries.specs.declared.Entered.{Entered}
-use Rattle.paper_entries.specs.Paper.Answers.{Reply, ok-number, ok, no-number, replyOf, pairReplyOf}
+use Rattle.paper_entries.specs.Paper.Replies.{Reply, ok-number, ok, no-number, replyOf, pairReplyOf}
 use Rattle.paper_entries.specs.Paper.Entry.{arc, mark, cut, Entry, addition, other, number}
 use Rattle.paper_entries.specs.Paper.Enter.{enter}
-use Rattle.paper_entries.specs.Paper.Exact.{Outcome, by-table, impossible, accepted}
-use Rattle.paper_entries.specs.Paper.Gate.{gate}
+use Rattle.paper_entries.specs.Paper.Outcome.{Outcome, by-table, impossible, accepted}
+use Rattle.paper_entries.specs.Paper.Checks.{firstRefusal}
 use Rattle.paper_entries.specs.Paper.Looking as Looking
-use Rattle.paper_entries.specs.Stepped.{enter-checked, enter-refused}
-use Rattle.paper_plans.specs.Paper.Answers.{planReplyOf}
+use Rattle.paper_entries.specs.EnterOutcome.{enter-checked, enter-refused}
+use Rattle.paper_plans.specs.Paper.PlanReply.{planReplyOf}
 use Rattle.paper_plans.specs.Paper.Lists.{among}
 use Rattle.paper_plans.specs.Paper.Planner as Planner
 use Rattle.paper_plans.specs.Paper.Tries as Tries
@@ -42,7 +42,7 @@ module _ (b : Board) where
   refused-zero (pair x y) p = rw (Looking.pair, p)
   refused-zero (plan z) p = rw (Planner.plan, p)
 
-  pub refused-table : (q : Request) (r : Refusal) → passes b ≡ true → gate (checksOf (b .jobs) q) ≡ some r
+  pub refused-table : (q : Request) (r : Refusal) → passes b ≡ true → firstRefusal (checksOf (b .jobs) q) ≡ some r
       → refusal b q ≡ some (numberOf r)
   unfolding enter Looking.row Looking.pair Planner.plan
   refused-table (entry e) r p g = rw (enter, p, g)
@@ -61,18 +61,18 @@ module _ (b : Board) where
   entries-have-8 (other (mark j m)) = refl
   entries-have-8 (other (cut j e d)) = refl
 
-  entry-result : (e : Entry) (x : Entered) → Outcome (shown (view b)) b e x → gate (checksOf (b .jobs) (entry e)) ≡ none
+  entry-result : (e : Entry) (x : Entered) → Outcome (shown (view b)) b e x → firstRefusal (checksOf (b .jobs) (entry e)) ≡ none
       → (entryRefusal (replyOf (x .answer)) ≡ none) ⊎ (entryRefusal (replyOf (x .answer)) ≡ some 8)
   entry-result e _ (by-table r h) g = clash (cc)
   entry-result e _ (impossible h k) g = inr refl
   entry-result (addition l d f m) _ (accepted h c s t) g = inl refl
   entry-result (other s) _ (accepted h c k t) g = inl refl
 
-  plan-result : (v : View) (n : ℕ) (o : Tries.Outcome) → planRefusal (planReplyOf (Planner.answer v n o)) ≡ none
+  plan-result : (v : View) (n : ℕ) (o : Tries.Ending) → planRefusal (planReplyOf (Planner.plannedWithin v n o)) ≡ none
   plan-result v n (Tries.found t ps) = by-test (λ x. planRefusal (planReplyOf x) ≡ none) (leb t n) _ _ (λ e. refl) (λ e. refl)
   plan-result v n (Tries.none t) = by-test (λ x. planRefusal (planReplyOf x) ≡ none) (leb t n) _ _ (λ e. refl) (λ e. refl)
 
-  pub passed-result : (q : Request) → passes b ≡ true → gate (checksOf (b .jobs) q) ≡ none → Result q
+  pub passed-result : (q : Request) → passes b ≡ true → firstRefusal (checksOf (b .jobs) q) ≡ none → Result q
   unfolding Looking.row Looking.pair Planner.plan
   passed-result (entry e) p g = go (entry-result e (enter b e) (enter-checked b e p) g)
     where

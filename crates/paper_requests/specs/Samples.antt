@@ -17,14 +17,14 @@ use Rattle.paper_board.specs.Paper.Parts.{ofParts, emptyBooks, withTally}
 use Rattle.paper_board.specs.Paper.Tests.{live, valid, between, implies}
 use Rattle.paper_rules.specs.Paper.Rules.{E, D}
 use Rattle.paper_board.specs.Paper.View.{Live, Valid, Invalid, Arc, view}
-use Rattle.paper_board.specs.Tests.Limits.{all, isZero, fits, isZeroRow, full, shape, holdsJob, holdsNothing, joinable, agrees, withinLimits}
+use Rattle.paper_board.specs.BoardTests.WithinLimits.{all, isZero, fits, isZeroRow, full, shape, holdsJob, holdsNothing, joinable, agrees, withinLimits}
 use Rattle.paper_rules.specs.Update.Updates.{exclude, tighten, update, _andThen_}
 use Rattle.paper_closure.specs.Find.{guard, _orElse_, first, any, beyond, tooLate, joined, pushers, pushed, push, next, find}
-use Rattle.paper_closure.specs.Closing.{close, closure}
-use Rattle.paper_closure.specs.Check.{nothingLeft, passes}
-use Rattle.paper_entries.specs.Paper.Answers.{ok-number, no-number, replyOf}
+use Rattle.paper_closure.specs.Closure.{close, closure}
+use Rattle.paper_closure.specs.Passes.{nothingLeft, passes}
+use Rattle.paper_entries.specs.Paper.Replies.{ok-number, no-number, replyOf}
 use Rattle.paper_entries.specs.Paper.Entry.{Entry}
-use Rattle.paper_entries.specs.Paper.Gate.{checks, gate}
+use Rattle.paper_entries.specs.Paper.Checks.{checks, firstRefusal}
 use Rattle.paper_entries.specs.Paper.Enter.{updateAll, raw, closureWith, enter}
 use Rattle.paper_entries.specs.Paper.Sequence.{byValue, inPlace, Call, after, accepted, impossibles, finalBoard, acceptedBy}
 use Rattle.paper_plans.specs.Paper.Lists.{range, keep, every, among}
@@ -107,9 +107,9 @@ pub record DayFacts (b : Board) : Type 0 where
   pub added : refusal b (entry (job 1 0 100)) ≡ none
   pub validated : refusal b (entry (marked 3 1)) ≡ none
   pub cut : refusal b (entry (cutTo 2 0 34)) ≡ some 8
-  pub markChecks : gate (checks (b .jobs) (marked 3 1)) ≡ none
-  pub cutChecks : gate (checks (b .jobs) (cutTo 2 0 34)) ≡ none
-  pub sameChecks : gate (checks (b .jobs) (arrow 2 2)) ≡ some Refused.Same
+  pub markChecks : firstRefusal (checks (b .jobs) (marked 3 1)) ≡ none
+  pub cutChecks : firstRefusal (checks (b .jobs) (cutTo 2 0 34)) ≡ none
+  pub sameChecks : firstRefusal (checks (b .jobs) (arrow 2 2)) ≡ some Refused.Same
   pub found : tries (view b) (validJobs (view b)) ≡ Tries.found 3 (2 ∷ 1 ∷ 0 ∷ [])
 
 -- of the board after jobs that lie apart
@@ -134,7 +134,7 @@ pub record Computed : Type 0 where
   pub none : tries (view (finalBoard emptyBooks crowded)) (validJobs (view (finalBoard emptyBooks crowded))) ≡ Tries.none 15
 
 pub computed : Computed
-unfolding eqZ bit with without union difference singleton sum all implies between isZero fits isZeroRow full shape holdsJob holdsNothing joinable agrees withinLimits live valid exclude tighten update _andThen_ guard _orElse_ first any beyond tooLate joined pushers pushed push next find close closure nothingLeft passes gate updateAll raw closureWith enter after accepted impossibles count range keep every among add Tries._orElse_ startAfter from search
+unfolding eqZ bit with without union difference singleton sum all implies between isZero fits isZeroRow full shape holdsJob holdsNothing joinable agrees withinLimits live valid exclude tighten update _andThen_ guard _orElse_ first any beyond tooLate joined pushers pushed push next find close closure nothingLeft passes firstRefusal updateAll raw closureWith enter after accepted impossibles count range keep every among add Tries._orElse_ startAfter from search
 computed =
     record {
       board = refl;

@@ -16,17 +16,17 @@ use Rattle.paper_board.specs.declared.Refusal.the-variants as Refused
 use Rattle.paper_board.specs.Paper.Limits.{jobLimit, tallyLimit, emptyBoard}
 use Rattle.paper_board.specs.Paper.Parts.{ofParts, emptyBooks, withTally}
 use Rattle.paper_board.specs.Paper.Tests.{live, valid, between, implies}
-use Rattle.paper_board.specs.Tests.Limits.{all, isZero, fits, isZeroRow, full, shape, holdsJob, holdsNothing, joinable, agrees, withinLimits}
+use Rattle.paper_board.specs.BoardTests.WithinLimits.{all, isZero, fits, isZeroRow, full, shape, holdsJob, holdsNothing, joinable, agrees, withinLimits}
 use Rattle.paper_board.specs.Paper.View.{view}
 use Rattle.paper_rules.specs.Order.Empty.{within-emptyBooks, idle-obeys}
-use Rattle.paper_board.specs.Tests.LimitsDecided.{limits-yes}
+use Rattle.paper_board.specs.BoardTests.LimitsDecided.{limits-yes}
 use Rattle.paper_rules.specs.Update.Updates.{exclude, tighten, update, _andThen_}
 use Rattle.paper_closure.specs.Find.{guard, _orElse_, first, any, beyond, tooLate, joined, pushers, pushed, push, next, find}
-use Rattle.paper_closure.specs.Closing.{close, closure}
-use Rattle.paper_closure.specs.Check.{nothingLeft, passes}
-use Rattle.paper_closure.specs.Checked.{obeys-passes}
+use Rattle.paper_closure.specs.Closure.{close, closure}
+use Rattle.paper_closure.specs.Passes.{nothingLeft, passes}
+use Rattle.paper_closure.specs.PassesClosed.{obeys-passes}
 use Rattle.paper_entries.specs.Paper.Entry.{cut, addition, other}
-use Rattle.paper_entries.specs.Paper.Gate.{gate}
+use Rattle.paper_entries.specs.Paper.Checks.{firstRefusal}
 use Rattle.paper_entries.specs.Paper.Enter.{updateAll, raw, closureWith, enter}
 use Rattle.paper_entries.specs.Paper.Looking as Looking
 use Rattle.paper_plans.specs.Paper.Planner as Planner
@@ -63,7 +63,7 @@ meets : (b : Board) (q : Request) (r : ℕ) → refusal b q ≡ some r → Met (
 meets b q r e = record { board = b; request = q; sort = refl; refused = e }
 
 table : (s : Sort) → EachMet s (refusalsOf s)
-unfolding eqZ bit with without union difference singleton sum all implies between isZero fits isZeroRow full shape holdsJob holdsNothing joinable agrees withinLimits live valid exclude tighten update _andThen_ guard _orElse_ first any beyond tooLate joined pushers pushed push next find close closure nothingLeft passes gate updateAll raw closureWith enter Looking.row Looking.pair count Planner.plan
+unfolding eqZ bit with without union difference singleton sum all implies between isZero fits isZeroRow full shape holdsJob holdsNothing joinable agrees withinLimits live valid exclude tighten update _andThen_ guard _orElse_ first any beyond tooLate joined pushers pushed push next find close closure nothingLeft passes firstRefusal updateAll raw closureWith enter Looking.row Looking.pair count Planner.plan
 table an-addition =
     meets overTallied (entry (job 10 0 100)) 0 refl
     also meets allInvalid (entry (job 10 0 100)) 1 (refused-table allInvalid (entry (job 10 0 100)) Refused.Full full-passes refl)

@@ -1,8 +1,8 @@
 -- The rules as inferences of facts: the same as the paper's words, and forced.
 pub mod Infers
 pub mod SumBeyond
-pub mod Known
-pub mod Agrees
+pub mod KnownMore
+pub mod ObeysRules
 pub mod Forced
-pub mod OnlyEntries
+pub mod LeastEntered
 pub mod LeastClosed

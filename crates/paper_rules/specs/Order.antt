@@ -1,6 +1,6 @@
 -- The order of boards by how much they show.
-pub mod Laws
+pub mod OrderLaws
 pub mod Empty
 pub mod Leastness
-pub mod Unique
-pub mod Tabulated
+pub mod LeastUnique
+pub mod BoardOf

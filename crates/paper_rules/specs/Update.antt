@@ -1,16 +1,16 @@
 -- Updates by one fact or one job: the least board above that shows it.
 pub mod Updates
 pub mod Extension
-pub mod Compose
+pub mod ExtendsThen
 pub mod Stores
-pub mod Limits
-pub mod Order
-pub mod Rows
+pub mod StoreWithin
+pub mod StoreLeast
+pub mod RaisedRows
 pub mod Updated
-pub mod Reaches
+pub mod Derives
 pub mod Appended
-pub mod Filled
-pub mod Places
+pub mod ArraysWithin
+pub mod PartlyChanged
 pub mod Strike
 pub mod StrikeLaws
 pub mod Excluded

@@ -8,8 +8,8 @@ use Rattle.text_decimals.specs.Rest.{rest, rest-drop}
 use Rattle.paper_board.specs.declared.Board.{Board}
 use Rattle.text_pieces.specs.declared.Piece.{Piece}
 use Rattle.text_forms.specs.Paper.Lines.{linesOf}
-use Rattle.text_answers.specs.Paper.Text.{serve, answer}
-use Rattle.text_pieces.specs.Serving.{Answers}
+use Rattle.text_answers.specs.Paper.Text.{serve, serveText}
+use Rattle.text_pieces.specs.Continues.{Answers}
 use Rattle.text_pieces.specs.Pieces.{Pieces, first, further, Whole, pieces-whole}
 
 -- the buffer holds the piece w of a text, and board b and the text t remain
@@ -17,7 +17,7 @@ pub record Buffered (text w : List ℕ) (b : Board) (t : List ℕ) : Type 0 wher
   pub before : List (List ℕ)
   pub given : Pieces text (before ++ (w ∷ [])) b t
 
-pub first-piece : {text out : List ℕ} {piece : Piece} → Answers (answer text) text out piece
+pub first-piece : {text out : List ℕ} {piece : Piece} → Answers (serveText text) text out piece
     → Buffered text (take (piece .written) out) (piece .board) (rest text (piece .read))
 first-piece h = record { before = []; given = rw rest-drop (first h) }
 

@@ -64,7 +64,7 @@ pub struct Served {
 
 // Answers a text, in pieces as large as the buffer. No contract can say which bytes a write takes, so that this one speaks of the board, and
 // of pieces that are the whole output; that the next of them is in the buffer at each write is the loop's invariant (`Buffered`).
-pub fn answer(bytes: &[u8]) -> Served
+pub fn serve_text(bytes: &[u8]) -> Served
     ensures { λ r. ⌜ (r .complete ≡ true → Whole (now (bytes .entry)) (r .board)) ⌝ }
 {
     let mut out = io::large_buffer();
@@ -101,7 +101,7 @@ pub fn run(fd: i32) {
         return;
     }
     let length = input.length;
-    let served = answer(&buffer[0..length]);
+    let served = serve_text(&buffer[0..length]);
     if !served.complete {
         io::write_all(STDERR_FILENO, b"the answers could not be written\n");
     }

@@ -4,7 +4,7 @@ use paper_entries::Entered;
 use paper_entries::Entry;
 ghost use mathlib.Core.Path.{_≡_};
 ghost use Rattle.paper_entries.specs.Paper.Enter as paper;
-ghost use Rattle.paper_entries.specs.Paper.Values.{entryOf};
+ghost use Rattle.paper_entries.specs.Paper.EntryOf.{entryOf};
 
 pub fn enter(board: Board, entry: Entry) -> Entered
     ensures { λ r. ⌜ r ≡ paper.enter board (entryOf entry) ⌝ }

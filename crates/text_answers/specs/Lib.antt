@@ -1,9 +1,9 @@
 -- "The text": from bytes to bytes.
 pub mod Paper
-pub mod Examples
+pub mod TextExamples
 -- every board on the way passes check 0, so that no answer is 0; and demand 3 speaks of every text
-pub mod Checked
-pub mod NeverZero
-pub mod Calls
+pub mod CarriedPasses
+pub mod NeverAnswered
+pub mod TextCalls
 -- what the code goes by: a line at a time
-pub mod Carried
+pub mod Gives

@@ -18,8 +18,8 @@ ghost use mathlib.Core.Bool.{true};
 ghost use Prim.Native.Nat.{_+_, _≤_};
 ghost use lib.ListN.{length};
 ghost use Rattle.text_decimals.specs.Written.{Written};
-ghost use Rattle.paper_closure.specs.Check.{passes};
-ghost use Rattle.text_replies.specs.Room.{longest};
+ghost use Rattle.paper_closure.specs.Passes.{passes};
+ghost use Rattle.text_replies.specs.Room.{answerRoom};
 ghost use Rattle.text_answers.specs.Paper.Text as paper;
 
 // The board after a form, and where its answer ends in the buffer.
@@ -29,8 +29,8 @@ pub struct Answered {
 }
 
 fn entered(out: &mut [u8], at: usize, entered: Entered) -> Answered
-    requires { ⌜ at + longest ≤ length (now out) ⌝ }
-    ensures { λ r. ⌜ Written (now (out .entry)) at (now (out .exit)) (r .end) (paper.replyText (paper.entered entered .reply)) longest ⌝ }
+    requires { ⌜ at + answerRoom ≤ length (now out) ⌝ }
+    ensures { λ r. ⌜ Written (now (out .entry)) at (now (out .exit)) (r .end) (paper.replyText (paper.entered entered .reply)) answerRoom ⌝ }
     ensures { λ r. ⌜ r .board ≡ paper.entered entered .board ⌝ }
 {
     let answer = entered.answer;
@@ -45,9 +45,9 @@ fn looked(board: Board, end: usize) -> Answered
     Answered { board, end }
 }
 
-pub fn answer(board: Board, form: Form, out: &mut [u8], at: usize) -> Answered
-    requires { ⌜ (passes board ≡ true) × (at + longest ≤ length (now out)) ⌝ }
-    ensures { λ r. ⌜ Written (now (out .entry)) at (now (out .exit)) (r .end) (paper.replyText (paper.carriedOut board form .reply)) longest ⌝ }
+pub fn carry_out(board: Board, form: Form, out: &mut [u8], at: usize) -> Answered
+    requires { ⌜ (passes board ≡ true) × (at + answerRoom ≤ length (now out)) ⌝ }
+    ensures { λ r. ⌜ Written (now (out .entry)) at (now (out .exit)) (r .end) (paper.replyText (paper.carriedOut board form .reply)) answerRoom ⌝ }
     ensures { λ r. ⌜ r .board ≡ paper.carriedOut board form .board ⌝ }
 {
     match form {

@@ -17,6 +17,6 @@ digitsWithin (suc k) n =
 unfoldable pub natural : ℕ → List ℕ
 natural n = digitsWithin (suc n) n
 
-abbrev pub number : ℤ → List ℕ
-number (pos n) = natural n
-number (negsuc n) = minus ∷ natural (suc n)
+abbrev pub decimal : ℤ → List ℕ
+decimal (pos n) = natural n
+decimal (negsuc n) = minus ∷ natural (suc n)

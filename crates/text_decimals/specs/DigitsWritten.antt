@@ -13,16 +13,16 @@ use mir.Syntax.{w32}
 use mir.Val.{SFits}
 use mir.ValLaws.{toZ-ofZ}
 use Rattle.text_decimals.specs.Bytes.{minus}
-use Rattle.text_decimals.specs.Decimal.{natural, number}
+use Rattle.text_decimals.specs.Decimal.{natural, decimal}
 use Rattle.text_decimals.specs.Digits.{natural-small, natural-more}
 use Rattle.text_decimals.specs.Magnitude.{held, magnitude-length}
 use Rattle.text_decimals.specs.Written.{Written, append-written, weaken-written}
 
-number-positive : (z : ℤ) → ltZ z (pos 0) ≡ false → number z ≡ natural (natAbs z)
+number-positive : (z : ℤ) → ltZ z (pos 0) ≡ false → decimal z ≡ natural (natAbs z)
 number-positive (pos n) l = refl
 number-positive (negsuc n) l = cc
 
-number-negative : (z : ℤ) → ltZ z (pos 0) ≡ true → number z ≡ minus ∷ natural (natAbs z)
+number-negative : (z : ℤ) → ltZ z (pos 0) ≡ true → decimal z ≡ minus ∷ natural (natAbs z)
 number-negative (pos n) l = absurd (omega (arith, ltb-true n 0 l))
 number-negative (negsuc n) l = refl
 
@@ -39,13 +39,13 @@ module _ {o p : List ℕ} {i j : ℕ} where
   last-digit n h e tenth w = rw (natural-more n h, length-append) (append-written tenth (rw e at w) (omega arith))
 
   pub positive-written : (z : ℤ) {m : ℕ} → SFits w32 z → ltZ (held z) (pos 0) ≡ false → m ≡ natAbs (held z)
-      → DigitsWritten o i p j m → Written o i p j (number z) 11
+      → DigitsWritten o i p j m → Written o i p j (decimal z) 11
   positive-written z h l e w =
       let is = simp (toZ-ofZ, h) at e in
       rw (number-positive z (simp (toZ-ofZ, h) at l), ← is) (weaken-written w (omega (arith, magnitude-length z h e)))
 
   pub negative-written : (z : ℤ) {m : ℕ} {q : List ℕ} {k : ℕ} → SFits w32 z → ltZ (held z) (pos 0) ≡ true → m ≡ natAbs (held z)
-      → Written o i p j (minus ∷ []) 1 → DigitsWritten p j q k m → Written o i q k (number z) 11
+      → Written o i p j (minus ∷ []) 1 → DigitsWritten p j q k m → Written o i q k (decimal z) 11
   negative-written z h l e sign w =
       let is = simp (toZ-ofZ, h) at e in
       rw (number-negative z (simp (toZ-ofZ, h) at l), ← is)

@@ -4,7 +4,7 @@ ghost use mathlib.Core.Path.{_≡_};
 ghost use Prim.Native.Nat.{_+_, _≤_, _<_};
 ghost use lib.IntN.{natAbs};
 ghost use lib.ListN.{length};
-ghost use Rattle.text_decimals.specs.Decimal.{natural, number};
+ghost use Rattle.text_decimals.specs.Decimal.{natural, decimal};
 ghost use Rattle.text_decimals.specs.Written.{Written};
 
 pub fn put_byte(out: &mut [u8], at: usize, b: u8) -> usize
@@ -53,7 +53,7 @@ fn magnitude(z: i32) -> u64
 
 pub fn put_number(out: &mut [u8], at: usize, z: i32) -> usize
     requires { ⌜ at + 11 ≤ length (now out) ⌝ }
-    ensures { λ r. ⌜ Written (now (out .entry)) at (now (out .exit)) r (number z) 11 ⌝ }
+    ensures { λ r. ⌜ Written (now (out .entry)) at (now (out .exit)) r (decimal z) 11 ⌝ }
 {
     if z < 0 {
         let next = put_byte(out, at, b'-');

@@ -8,7 +8,7 @@ use lib.ListN.{getD, drop}
 use mathlib.Core.Bool.{cond}
 use mathlib.Core.List.{List, [], _∷_, _++_}
 use mathlib.Core.Option.{Option, none, some}
-use Rattle.text_decimals.specs.Decimal.{natural, number}
+use Rattle.text_decimals.specs.Decimal.{natural, decimal}
 use Rattle.text_numerals.specs.Numerals.{numberAt}
 use Rattle.text_numerals.specs.declared.Numeral.the-variants.{Number, Nothing}
 
@@ -23,7 +23,7 @@ unfoldable pub filled : List ℕ → List ℕ → List ℤ → List ℕ
 filled [] ns zs = []
 filled (c ∷ f) ns zs =
     let asNatural = natural (getD ns 0 0) ++ filled f (drop 1 ns) zs in
-    let asNumber = number (getD zs 0 (pos 0)) ++ filled f ns (drop 1 zs) in
+    let asNumber = decimal (getD zs 0 (pos 0)) ++ filled f ns (drop 1 zs) in
     let asItself = filled f ns zs in
     cond (eqb c naturalMark) asNatural (cond (eqb c numberMark) asNumber (c ∷ asItself))
 

@@ -9,14 +9,14 @@ use mathlib.Core.List.{List, [], _∷_}
 use mathlib.Core.Path.{_≡_, refl}
 use mir.Syntax.{w32}
 use mir.ValLaws.{toZ-ofZ}
-use Rattle.text_decimals.specs.Decimal.{natural, number}
+use Rattle.text_decimals.specs.Decimal.{natural, decimal}
 use Rattle.text_decimals.specs.Magnitude.{held}
 use Rattle.text_decimals.specs.Written.{Written, nothing-written, append-written}
 use Rattle.text_formats.specs.Format.{filled, marks, naturalMark, numberMark, room}
 use Rattle.text_decimals.specs.Rest.{rest, rest-drop}
 
 -- f is a byte longer than g, and takes so much more room, and so many more naturals and numbers
-pub record Takes (f g : List ℕ) (most naturals numbers : ℕ) : Type 0 where
+pub record ByteTakes (f g : List ℕ) (most naturals numbers : ℕ) : Type 0 where
   pub longer : length f ≡ suc (length g)
   pub room-more : room f ≡ most + room g
   pub naturals-more : marks naturalMark f ≡ naturals + marks naturalMark g
@@ -24,7 +24,7 @@ pub record Takes (f g : List ℕ) (most naturals numbers : ℕ) : Type 0 where
 
 -- the first byte of f takes so much
 abbrev pub FirstTakes : List ℕ → ℕ → ℕ → ℕ → Type 0
-FirstTakes f = Takes f (rest f 1)
+FirstTakes f = ByteTakes f (rest f 1)
 
 pub natural-takes : (f : List ℕ) → (length f ≡ 0 → ⊥) → getD f 0 0 ≡ naturalMark → FirstTakes f 20 1 0
 natural-takes [] some e = absurd (some refl)
@@ -59,7 +59,7 @@ module _ {o p q : List ℕ} {i j k : ℕ} where
 
   pub number-printed : (f ns : List ℕ) (zs : List ℤ) → (length f ≡ 0 → ⊥) → getD f 0 0 ≡ numberMark
       → mag (getD zs 0 (pos 0)) < 2 ^ 31
-      → Written o i p j (number (held (getD zs 0 (pos 0)))) 11 → Written p j q k (filled (rest f 1) ns (rest zs 1)) (room (rest f 1))
+      → Written o i p j (decimal (held (getD zs 0 (pos 0)))) 11 → Written p j q k (filled (rest f 1) ns (rest zs 1)) (room (rest f 1))
       → Written o i q k (filled f ns zs) (room f)
   unfolding filled
   number-printed [] ns zs some e fits first after = absurd (some refl)

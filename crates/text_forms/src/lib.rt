@@ -7,7 +7,7 @@ use table::first;
 use text_scans::PLACES;
 ghost use mathlib.Core.Path.{_≡_};
 ghost use Rattle.text_forms.specs.Paper.Forms.{formOf};
-ghost use Rattle.text_forms.specs.Table.{madeAt};
+ghost use Rattle.text_forms.specs.FormTable.{madeAt};
 
 // A form with its numbers.
 pub enum Form {

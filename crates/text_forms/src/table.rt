@@ -5,7 +5,7 @@ use text_scans::scan;
 ghost use mathlib.Core.Path.{_≡_};
 ghost use mathlib.Core.Bool.{true};
 ghost use Rattle.text_forms.specs.Paper.Lines.{linesOf};
-ghost use Rattle.text_forms.specs.Table.{scans, firstIn};
+ghost use Rattle.text_forms.specs.FormTable.{scans, firstIn};
 
 // Which format of the table, counted from 0, and the numbers in the text; past the last where the text is written by none.
 pub struct Match {

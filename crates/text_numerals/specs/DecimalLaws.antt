@@ -13,7 +13,7 @@ use Rattle.text_decimals.specs.Bytes.{isDigit}
 use Rattle.text_decimals.specs.Decimal.{natural}
 use Rattle.text_decimals.specs.Digits.{natural-small, natural-more, natural-length}
 use Rattle.text_numerals.specs.DigitsRead.{digits-ind, digit-range}
-use Rattle.text_numerals.specs.Natural.{natural-parts}
+use Rattle.text_numerals.specs.NaturalRead.{natural-parts}
 use Rattle.text_numerals.specs.Numerals.{digits, valueAfter, value, isNatural}
 use Rattle.text_numerals.specs.Value.{value-append}
 
@@ -28,7 +28,7 @@ module _ (P : ℕ → List ℕ → Type 0) (units : (n : ℕ) → n < 10 → P n
       go tenth true e = let small = ltb-true n 10 e in rw (natural-small n small) (units n small)
       go tenth false e = let large = ltb-false n 10 e in rw (natural-more n large) (more n (natural (n / 10)) large (tenth (omega arith)))
 
-  pub natural-ind : (n : ℕ) → P n (natural n)
+  natural-ind : (n : ℕ) → P n (natural n)
   natural-ind n = below (suc n) n (omega arith)
 
 digit-written : (d : ℕ) → d < 10 → isDigit (code "0" + d) ≡ true

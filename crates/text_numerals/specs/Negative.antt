@@ -9,7 +9,7 @@ use mir.Syntax.{w32}
 use mir.Val.{SFits, toZ, ofZ}
 use mir.ValLaws.{toZ-ofZ}
 use borrow.Author.Tests.{eq-eqb, ne-eqb}
-use Rattle.text_numerals.specs.Natural.{natural-parts, natural-short, short-fits, NaturalRead}
+use Rattle.text_numerals.specs.NaturalRead.{natural-parts, natural-short, short-fits, NaturalRead}
 use Rattle.text_numerals.specs.Numerals.{digits, value, negative}
 use Rattle.text_numerals.specs.declared.Numeral.the-variants.{Number, Nothing}
 

@@ -6,11 +6,11 @@ use native.Mathlib.Nat.{add-zero, zero-add, add-suc, suc-add}
 use native.Mathlib.Numerals.{add-one}
 use Rattle.paper_rules.specs.Paper.Schedules.{Placing}
 use Rattle.paper_plans.specs.Paper.Lists.{range}
-use Rattle.text_replies.specs.Paper.Replies.{placementText, placementsText}
+use Rattle.text_replies.specs.Paper.ReplyTexts.{placementText, placementsText}
 
 module _ (p : Placing) where
   -- the placement of one job
-  abbrev pub placement : ℕ → List ℕ
+  abbrev placement : ℕ → List ℕ
   placement j = placementText (p .placed j) j (p .start j)
 
   from-next : (i n : ℕ) → placementsText p (range i (suc n)) ≡ placementsText p (range i n) ++ placement (i + n)

@@ -9,10 +9,10 @@ ghost use lib.ListN.{length};
 ghost use Rattle.ground_sets.specs.Bit.{bit};
 ghost use Rattle.text_decimals.specs.Written.{Written};
 ghost use Rattle.paper_board.specs.Paper.Limits.{jobLimit};
-ghost use Rattle.paper_plans.specs.Paper.Answers.{plan-found, placing, planReplyOf};
+ghost use Rattle.paper_plans.specs.Paper.PlanReply.{plan-found, placing, planReplyOf};
 ghost use Rattle.paper_plans.specs.Paper.Lists.{range};
-ghost use Rattle.text_replies.specs.Paper.Replies.{placementText, placementsText, planText};
-ghost use Rattle.text_replies.specs.Room.{longest, placementRoom, placementsRoom};
+ghost use Rattle.text_replies.specs.Paper.ReplyTexts.{placementText, placementsText, planText};
+ghost use Rattle.text_replies.specs.Room.{answerRoom, placementRoom, placementsRoom};
 
 fn put_placement(out: &mut [u8], at: usize, placed: u64, job: usize, start: i32) -> usize
     requires { ⌜ (job < jobLimit) × (at + placementRoom ≤ length (now out)) ⌝ }
@@ -43,8 +43,8 @@ fn put_found(
     placed: u64,
     starts: [i32; Board::JOBS],
 ) -> usize
-    requires { ⌜ at + longest ≤ length (now out) ⌝ }
-    ensures { λ r. ⌜ Written (now (out .entry)) at (now (out .exit)) r (planText (plan-found tries (placing placed starts))) longest ⌝ }
+    requires { ⌜ at + answerRoom ≤ length (now out) ⌝ }
+    ensures { λ r. ⌜ Written (now (out .entry)) at (now (out .exit)) r (planText (plan-found tries (placing placed starts))) answerRoom ⌝ }
 {
     let listing = print(out, at, b"(plan @ (found", &[tries as u64], &[]);
     let listed = put_placements(out, listing, placed, starts);
@@ -53,8 +53,8 @@ fn put_found(
 
 // "`plan` prints T (the budget where spent), then `(found ..)` [..], `(none)` or `(spent)`."
 pub fn put_plan(out: &mut [u8], at: usize, planned: Planned) -> usize
-    requires { ⌜ at + longest ≤ length (now out) ⌝ }
-    ensures { λ r. ⌜ Written (now (out .entry)) at (now (out .exit)) r (planText (planReplyOf planned)) longest ⌝ }
+    requires { ⌜ at + answerRoom ≤ length (now out) ⌝ }
+    ensures { λ r. ⌜ Written (now (out .entry)) at (now (out .exit)) r (planText (planReplyOf planned)) answerRoom ⌝ }
 {
     let answer = planned.answer;
     match answer {

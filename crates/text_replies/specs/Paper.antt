@@ -1,2 +1,2 @@
 -- "Each line gives one line" as definitions.
-pub mod Replies
+pub mod ReplyTexts

@@ -10,5 +10,5 @@ placementRoom = room (bytes " (@ #)")
 abbrev pub placementsRoom : ℕ
 placementsRoom = jobLimit * placementRoom
 
-abbrev pub longest : ℕ
-longest = 2304
+abbrev pub answerRoom : ℕ
+answerRoom = 2304

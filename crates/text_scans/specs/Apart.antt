@@ -9,7 +9,7 @@ use mathlib.Core.Option.{none}
 use mathlib.Core.Path.{_≡_, refl, _∙_}
 use native.Mathlib.Omega.{arith}
 use borrow.Author.Tests.{eqb-true, not-true}
-use Rattle.text_scans.specs.Exact.{scannable, AllShort, Scannable, scannable-parts, mark-scanned, byte-scanned}
+use Rattle.text_scans.specs.ScannedIsFilled.{scannable, AllShort, Scannable, scannable-parts, mark-scanned, byte-scanned}
 use Rattle.text_formats.specs.Format.{numberMark, filled, scan, marks}
 use Rattle.text_scans.specs.Steps.{scan-nothing}
 

@@ -9,7 +9,7 @@ use mathlib.Core.Option.{none}
 use mathlib.Core.Path.{_≡_, refl}
 use native.Mathlib.Omega.{arith}
 use borrow.Author.Tests.{eq-eqb, ne-eqb}
-use Rattle.text_decimals.specs.Decimal.{number}
+use Rattle.text_decimals.specs.Decimal.{decimal}
 use Rattle.text_numerals.specs.Numerals.{numberAt}
 use Rattle.text_numerals.specs.declared.Numeral.the-variants.{Number, Nothing}
 use Rattle.text_formats.specs.Format.{numberMark, naturalMark, filled, scan, with-first}
@@ -40,7 +40,7 @@ scan-nothing c f = go (eqb c numberMark) refl
     go false m = rw m
 
 pub filled-number : (c : ℕ) (f : List ℕ) (zs : List ℤ) → eqb c naturalMark ≡ false → eqb c numberMark ≡ true
-    → filled (c ∷ f) [] zs ≡ number (getD zs 0 (pos 0)) ++ filled f [] (drop 1 zs)
+    → filled (c ∷ f) [] zs ≡ decimal (getD zs 0 (pos 0)) ++ filled f [] (drop 1 zs)
 unfolding filled
 filled-number c f zs n m = rw (n, m)
 

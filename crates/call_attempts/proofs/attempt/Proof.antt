@@ -29,9 +29,9 @@ returns c b jobs within =
 closure-requires : tie.Need-closure-requires
 closure-requires c κs =
     let stated = shown c .before in
-    let (within, admissible) = start stated .pre in
+    let (within, storable) = start stated .pre in
     let counted = c .before .before .before .before .before .before .jobs-with .ensures in
-    stated-arrays (start stated .args .stated) _ _ _ _ _ _ _ _ (stated .state .result) _ _ _ _ _ _ (stated .state .ensures) (holds (shown c)) admissible counted within
+    stated-arrays (start stated .args .stated) _ _ _ _ _ _ _ _ (stated .state .result) _ _ _ _ _ _ (stated .state .ensures) (holds (shown c)) storable counted within
 
 returns-2 : tie.Need-returns-2
 returns-2 c =

@@ -2,7 +2,7 @@
 use native.Mathlib.Omega.{arith}
 use mir.Syntax.{w32}
 use mir.ValLaws.{toZ-ofZ}
-use Rattle.call_checks.specs.Natural.{number-mag, cast-fits, cast-number}
+use Rattle.call_checks.specs.CastNumber.{number-mag, cast-fits, cast-number}
 use Rattle.call_checks.proofs.budget_value.Statement.{statement}
 use Rattle.call_checks.proofs.budget_value.Tie as tie
 

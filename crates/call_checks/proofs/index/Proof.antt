@@ -2,7 +2,7 @@
 use native.Mathlib.Omega.{arith}
 use mir.Syntax.{w64}
 use mir.ValLaws.{toZ-ofZ}
-use Rattle.call_checks.specs.Natural.{number-mag, cast-fits, cast-number}
+use Rattle.call_checks.specs.CastNumber.{number-mag, cast-fits, cast-number}
 use Rattle.call_checks.proofs.index.Statement.{statement}
 use Rattle.call_checks.proofs.index.Tie as tie
 

@@ -5,7 +5,7 @@ use lib.IntN.{pos}
 use lib.Signed.{leZ, _≤ℤ_}
 use mir.ValLaws.{toZ-ofZ}
 use Rattle.ground_arithmetic.specs.Linear.{whole}
-use Rattle.call_checks.specs.Natural.{less-number}
+use Rattle.call_checks.specs.CastNumber.{less-number}
 use Rattle.call_checks.proofs.is_job.Statement.{statement}
 use Rattle.call_checks.proofs.is_job.Tie as tie
 

@@ -1,6 +1,6 @@
--- `call_checks::line` meets its contract: `gate` asks of its first check what the code asks. Assumes nothing.
+-- `call_checks::line` meets its contract: `firstRefusal` asks of its first check what the code asks. Assumes nothing.
 use mathlib.Core.Path.{_∙_}
-use Rattle.paper_entries.specs.Lines.{met, unmet}
+use Rattle.paper_entries.specs.CheckLines.{met, unmet}
 use Rattle.call_checks.proofs.line.Statement.{statement}
 use Rattle.call_checks.proofs.line.Tie as tie
 

@@ -2,7 +2,7 @@
 use mir.Syntax.{w8}
 use mir.ValLaws.{toZ-ofZ}
 use Rattle.ground_arithmetic.specs.Linear.{whole, none-below}
-use Rattle.call_checks.specs.Natural.{cast-fits, cast-number}
+use Rattle.call_checks.specs.CastNumber.{cast-fits, cast-number}
 use Rattle.call_checks.proofs.mark_value.Statement.{statement}
 use Rattle.call_checks.proofs.mark_value.Tie as tie
 

@@ -3,8 +3,8 @@ use mathlib.Core.Path.{refl, _∙_}
 use borrow.Author.Needs.{needs}
 use borrow.Author.Tests.{not-true, not-false}
 use Rattle.paper_board.specs.Paper.Limits.{Within}
-use Rattle.paper_closure.specs.Checked.{passes-within}
-use Rattle.call_statements.specs.Stated.{placed}
+use Rattle.paper_closure.specs.PassesClosed.{passes-within}
+use Rattle.call_statements.specs.Stated.{have-places}
 use Rattle.call_enter.specs.Concluded.{shown-already, is-impossible, is-possible}
 use Rattle.call_enter.proofs.decide.Statement.{statement}
 use Rattle.call_enter.proofs.decide.Tie as tie
@@ -25,7 +25,7 @@ within c = passes-within _ (c .pre .0)
 is-shown-requires : tie.Need-is-shown-requires
 is-shown-requires c κs =
     let at = c .before .before .before .before .before in
-    placed (at .args .t1 .jobs) (at .args .stated) (within at .limits .jobs) (at .pre .1)
+    have-places (at .args .t1 .jobs) (at .args .stated) (within at .limits .jobs) (at .pre .1)
 
 returns : tie.Need-returns
 returns c =

@@ -2,27 +2,27 @@
 use mathlib.Core.Path.{_≡_, sym, _∙_}
 use mathlib.Core.Option.{none}
 use borrow.Author.Needs.{needs}
-use Rattle.paper_entries.specs.Paper.Values.{entryOf}
-use Rattle.paper_entries.specs.Paper.Gate.{checks, gate}
-use Rattle.call_statements.specs.StatedBy.{stated-admissible}
-use Rattle.call_enter.specs.Called.{refused-enter, concluded-enter}
+use Rattle.paper_entries.specs.Paper.EntryOf.{entryOf}
+use Rattle.paper_entries.specs.Paper.Checks.{checks, firstRefusal}
+use Rattle.call_statements.specs.StatedBy.{stated-storable}
+use Rattle.call_enter.specs.ConcludedEnter.{refused-enter, concluded-enter}
 use Rattle.call_enter.proofs.enter.Statement.{statement}
 use Rattle.call_enter.proofs.enter.Tie as tie
 
 -- past its checks the entry meets none of them
-let-pass : (c : tie.After-enum-told) → let a = c .before .before .before .args in none ≡ gate (checks (a .board .jobs) (entryOf (a .entry)))
-let-pass c = rw (c .enum-told .given .1) at (c .before .before .entry-gate .ensures)
+let-pass : (c : tie.After-enum-told) → let a = c .before .before .before .args in none ≡ firstRefusal (checks (a .board .jobs) (entryOf (a .entry)))
+let-pass c = rw (c .enum-told .given .1) at (c .before .before .entry-checks .ensures)
 
 decide-requires : tie.Need-decide-requires
 decide-requires c κs =
     let told = c .before .before in
     let at = told .before .before .before in
-    rw (c .before .stated-by .ensures) (at .pre, stated-admissible (at .args .board .jobs) (entryOf (at .args .entry)) (sym (let-pass told)))
+    rw (c .before .stated-by .ensures) (at .pre, stated-storable (at .args .board .jobs) (entryOf (at .args .entry)) (sym (let-pass told)))
 
 returns : tie.Need-returns
 returns c =
     let checked = c .before .before .before .before in
-    c .refused .ensures ∙ refused-enter _ _ (checked .before .pre) _ (rw (c .before .before .refusal .given .1) at (checked .entry-gate .ensures))
+    c .refused .ensures ∙ refused-enter _ _ (checked .before .pre) _ (rw (c .before .before .refusal .given .1) at (checked .entry-checks .ensures))
 
 returns-2 : tie.Need-returns-2
 returns-2 c =

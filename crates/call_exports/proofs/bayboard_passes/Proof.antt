@@ -2,7 +2,7 @@
 use mathlib.Core.Path.{_≡_}
 use mathlib.Core.List.{[]}
 use mathlib.Core.Option.{none}
-use Rattle.paper_closure.specs.Check as check
+use Rattle.paper_closure.specs.Passes as check
 use Rattle.call_in_place.proofs.Called.{holds}
 use Rattle.call_in_place.proofs.Looked.{law}
 use Rattle.call_in_place.proofs.Plain.{truth}

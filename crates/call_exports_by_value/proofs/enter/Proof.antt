@@ -2,8 +2,8 @@
 use mathlib.Core.Path.{_≡_, sym, _∙_}
 use mathlib.Core.Logic.{⊎-elim}
 use borrow.Author.Needs.{needs}
-use Rattle.paper_closure.specs.Check.{passes}
-use Rattle.paper_entries.specs.Stepped.{enter-refused}
+use Rattle.paper_closure.specs.Passes.{passes}
+use Rattle.paper_entries.specs.EnterOutcome.{enter-refused}
 use Rattle.call_exports_by_value.proofs.enter.Statement.{statement}
 use Rattle.call_exports_by_value.proofs.enter.Tie as tie
 

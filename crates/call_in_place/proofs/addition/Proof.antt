@@ -5,7 +5,7 @@ use mathlib.Core.Option.{none}
 use denote.Ref.{now}
 use Rattle.paper_entries.specs.Paper.Entry as paper
 use Rattle.paper_entries.specs.Paper.Enter.{enter}
-use Rattle.paper_entries.specs.Paper.Values.{entryOf}
+use Rattle.paper_entries.specs.Paper.EntryOf.{entryOf}
 use Rattle.paper_entries.proofs.Entry.addition.Met as made
 use Rattle.paper_entries.proofs.Entry.addition.Symbol as making
 use Rattle.call_in_place.proofs.Called.{holds}

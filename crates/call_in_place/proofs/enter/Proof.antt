@@ -3,7 +3,7 @@ use mathlib.Core.Path.{_≡_}
 use mathlib.Core.List.{[], _∷_}
 use mathlib.Core.Option.{none}
 use Rattle.paper_entries.specs.Paper.Enter as paper
-use Rattle.paper_entries.specs.Paper.Values.{entryOf}
+use Rattle.paper_entries.specs.Paper.EntryOf.{entryOf}
 use Rattle.call_dock.proofs.Dock.enter.Met.{met}
 use Rattle.call_dock.proofs.Dock.enter.Symbol as by-value
 use Rattle.call_in_place.proofs.Called.{holds}

@@ -1,27 +1,27 @@
--- `call_pairs::pair` meets its contract: what its gate lets pass are two jobs. Assumes nothing.
+-- `call_pairs::pair` meets its contract: what its checks let pass are two jobs. Assumes nothing.
 use mathlib.Core.Path.{_≡_, sym}
 use mathlib.Core.Option.{none}
 use native.Mathlib.Omega.{arith}
 use borrow.Author.Needs.{needs}
 use mir.ValLaws.{toZ-ofZ}
-use Rattle.paper_closure.specs.Checked.{passes-within}
-use Rattle.paper_entries.specs.Paper.Gate.{pairChecks, gate}
+use Rattle.paper_closure.specs.PassesClosed.{passes-within}
+use Rattle.paper_entries.specs.Paper.Checks.{pairChecks, firstRefusal}
 use Rattle.paper_entries.specs.Paper.Looking.{pair}
-use Rattle.call_checks.specs.Values.{refusalOf}
-use Rattle.paper_entries.specs.Numbers.{PairNumbers, pair-numbers}
+use Rattle.call_checks.specs.RefusalOf.{refusalOf}
+use Rattle.paper_entries.specs.CallNumbers.{PairNumbers, pair-numbers}
 use Rattle.call_pairs.proofs.pair.Statement.{statement}
 use Rattle.call_pairs.proofs.pair.Tie as tie
 
--- what the gate says, with the numbers as they were given
-said : (c : tie.After-pair-gate)
+-- what the checks say, with the numbers as they were given
+said : (c : tie.After-pair-checks)
     → let a = c .before .args in
-    refusalOf (c .pair-gate .result) ≡ gate (pairChecks (a .board .jobs) (a .a) (a .b))
-said c = simp (toZ-ofZ, c .before .fits .a, c .before .fits .b) at (c .pair-gate .ensures)
+    refusalOf (c .pair-checks .result) ≡ firstRefusal (pairChecks (a .board .jobs) (a .a) (a .b))
+said c = simp (toZ-ofZ, c .before .fits .a, c .before .fits .b) at (c .pair-checks .ensures)
 
 -- past it no check is met
 let-pass : (c : tie.After-enum-told)
     → let a = c .before .before .before .args in
-    none ≡ gate (pairChecks (a .board .jobs) (a .a) (a .b))
+    none ≡ firstRefusal (pairChecks (a .board .jobs) (a .a) (a .b))
 let-pass c = rw (c .enum-told .given .1) at (said (c .before .before))
 
 numbers : (c : tie.After-enum-told) → let a = c .before .before .before .args in PairNumbers (a .board .jobs) (a .a) (a .b)
@@ -49,8 +49,8 @@ shown-pair-requires c κs =
 returns : tie.Need-returns
 unfolding pair
 returns c =
-    let gated = c .before .before .before in
-    rw (gated .before .pre, ← rw (c .before .refusal .given .1) at (said gated), pair)
+    let checked = c .before .before .before in
+    rw (checked .before .pre, ← rw (c .before .refusal .given .1) at (said checked), pair)
 
 returns-2 : tie.Need-returns-2
 unfolding pair

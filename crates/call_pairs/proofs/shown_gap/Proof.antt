@@ -4,7 +4,7 @@ use mir.Syntax.{w32}
 use mir.Val.{SFits}
 use mir.ValLaws.{toZ-ofZ}
 use Rattle.paper_board.specs.Paper.View.{rowOf}
-use Rattle.paper_board.specs.Tests.Ranges.{ranges, time-moderate}
+use Rattle.paper_board.specs.BoardTests.Ranges.{ranges, time-moderate}
 use Rattle.call_pairs.proofs.shown_gap.Statement.{statement}
 use Rattle.call_pairs.proofs.shown_gap.Tie as tie
 

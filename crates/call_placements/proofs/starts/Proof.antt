@@ -11,13 +11,13 @@ use Rattle.ground_arithmetic.specs.Time.{greater}
 use Rattle.paper_board.specs.Paper.Limits.{IsTime}
 use Rattle.paper_rules.specs.Paper.Rules.{E}
 use Rattle.paper_board.specs.Paper.View.{view}
-use Rattle.paper_board.specs.Tests.Live.{valid-yes}
-use Rattle.paper_board.specs.Tests.Ranges.{ranges, greater-time, time-moderate, length-moderate}
-use Rattle.engine_sums.specs.Exact.{lengths-within}
-use Rattle.engine_sums.specs.Laws.{time-fits, length-fits}
+use Rattle.paper_board.specs.BoardTests.Live.{valid-yes}
+use Rattle.paper_board.specs.BoardTests.Ranges.{ranges, greater-time, time-moderate, length-moderate}
+use Rattle.engine_sums.specs.RaiseExact.{lengths-within}
+use Rattle.engine_sums.specs.SumLaws.{time-fits, length-fits}
 use Rattle.paper_plans.specs.Paper.Planner.{startList}
-use Rattle.call_placements.specs.Rest.{stack}
-use Rattle.call_placements.specs.Loop.{at}
+use Rattle.call_placements.specs.Stack.{stack}
+use Rattle.call_placements.specs.PlannerState.{at}
 use Rattle.call_placements.specs.Starts.{Listed, none-listed, next-listed}
 use Rattle.call_placements.proofs.starts.Statement.{statement}
 use Rattle.call_placements.proofs.starts.Tie as tie

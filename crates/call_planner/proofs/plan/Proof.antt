@@ -1,23 +1,23 @@
--- `call_planner::plan` meets its contract: its gate has one line. Assumes nothing.
+-- `call_planner::plan` meets its contract: it has one check. Assumes nothing.
 use mathlib.Core.Path.{_≡_, sym}
 use mathlib.Core.List.{[], _∷_}
 use mathlib.Core.Option.{none}
 use borrow.Author.Needs.{needs}
 use mir.ValLaws.{toZ-ofZ}
-use Rattle.paper_closure.specs.Checked.{passes-within}
-use Rattle.paper_entries.specs.Paper.Gate.{budgetCheck, gate}
-use Rattle.call_checks.specs.Values.{refusalOf}
+use Rattle.paper_closure.specs.PassesClosed.{passes-within}
+use Rattle.paper_entries.specs.Paper.Checks.{budgetCheck, firstRefusal}
+use Rattle.call_checks.specs.RefusalOf.{refusalOf}
 use Rattle.paper_plans.specs.Paper.Planner.{plan}
 use Rattle.paper_plans.specs.PlanLaws.{budget-within}
 use Rattle.call_planner.proofs.plan.Statement.{statement}
 use Rattle.call_planner.proofs.plan.Tie as tie
 
--- what the gate says, with the budget as it was given
-said : (c : tie.After-budget-gate) → refusalOf (c .budget-gate .result) ≡ gate (budgetCheck (c .before .args .budget) ∷ [])
-said c = simp (toZ-ofZ, c .before .fits .budget) at (c .budget-gate .ensures)
+-- what the check says, with the budget as it was given
+said : (c : tie.After-budget-check) → refusalOf (c .budget-check .result) ≡ firstRefusal (budgetCheck (c .before .args .budget) ∷ [])
+said c = simp (toZ-ofZ, c .before .fits .budget) at (c .budget-check .ensures)
 
 -- past it no check is met
-let-pass : (c : tie.After-enum-told) → none ≡ gate (budgetCheck (c .before .before .before .args .budget) ∷ [])
+let-pass : (c : tie.After-enum-told) → none ≡ firstRefusal (budgetCheck (c .before .before .before .args .budget) ∷ [])
 let-pass c = rw (c .enum-told .given .1) at (said (c .before .before))
 
 marked-requires : tie.Need-marked-requires
@@ -34,8 +34,8 @@ search-requires c κs = (passes-within _ (c .before .before .before .before .bef
 returns : tie.Need-returns
 unfolding plan
 returns c =
-    let gated = c .before .before .before .before in
-    rw (gated .before .pre, ← rw (c .before .before .refusal .given .1) at (said gated), plan) (c .unplanned .ensures)
+    let checked = c .before .before .before .before in
+    rw (checked .before .pre, ← rw (c .before .before .refusal .given .1) at (said checked), plan) (c .unplanned .ensures)
 
 returns-2 : tie.Need-returns-2
 unfolding plan

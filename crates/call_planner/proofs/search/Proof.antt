@@ -14,15 +14,15 @@ use Rattle.ground_arithmetic.specs.Time.{greater}
 use Rattle.paper_board.specs.Paper.Limits.{IsTime}
 use Rattle.paper_rules.specs.Paper.Rules.{E, L}
 use Rattle.paper_board.specs.Paper.View.{view}
-use Rattle.paper_board.specs.Tests.Live.{valid-yes}
-use Rattle.paper_board.specs.Tests.Ranges.{ranges, greater-time, time-moderate, length-moderate}
-use Rattle.engine_sums.specs.Exact.{lengths-within}
-use Rattle.engine_sums.specs.Laws.{time-fits, length-fits}
+use Rattle.paper_board.specs.BoardTests.Live.{valid-yes}
+use Rattle.paper_board.specs.BoardTests.Ranges.{ranges, greater-time, time-moderate, length-moderate}
+use Rattle.engine_sums.specs.RaiseExact.{lengths-within}
+use Rattle.engine_sums.specs.SumLaws.{time-fits, length-fits}
 use Rattle.engine_marks.specs.Marked.{bit-valid}
 use Rattle.paper_plans.specs.Paper.Tries.{startAfter, ready, inTime}
-use Rattle.call_placements.specs.Rest.{stack}
+use Rattle.call_placements.specs.Stack.{stack}
 use Rattle.call_placements.specs.Waiting.{order}
-use Rattle.call_placements.specs.Loop.{at, State, try-test}
+use Rattle.call_placements.specs.PlannerState.{at, PlannerState, try-test}
 use Rattle.call_planner.specs.Moves.{at-start, taken-back, tried-in-vain, job-placed}
 use Rattle.call_planner.specs.Results.{deep, room, exhausted, overspent, all-are-placed}
 use Rattle.call_planner.proofs.search.Statement.{statement}
@@ -30,7 +30,7 @@ use Rattle.call_planner.proofs.search.Tie as tie
 
 abbrev Inv-loop : tie.InvT-loop
 Inv-loop valid budget board jobs₀ lefts₀ frees₀ depth₀ unplaced₀ left₀ free₀ tries₀ jobs lefts frees depth unplaced left free tries =
-    State board jobs lefts frees depth unplaced left (toZ w32 free) tries budget
+    PlannerState board jobs lefts frees depth unplaced left (toZ w32 free) tries budget
 
 abbrev μ-loop : tie.MeasureT-loop
 μ-loop valid budget board jobs₀ lefts₀ frees₀ depth₀ unplaced₀ left₀ free₀ tries₀ jobs lefts frees depth unplaced left free tries =
@@ -40,7 +40,7 @@ abbrev μ-loop : tie.MeasureT-loop
 held : (c : tie.In-loop Inv-loop μ-loop)
     → let l = c .before .loop in
     let a = c .before .before .args in
-    State (a .t1) (l .jobs) (l .lefts) (l .frees) (l .depth) (l .unplaced) (l .left) (toZ w32 (l .free)) (l .tries) (a .budget)
+    PlannerState (a .t1) (l .jobs) (l .lefts) (l .frees) (l .depth) (l .unplaced) (l .left) (toZ w32 (l .free)) (l .tries) (a .budget)
 held c = c .before .loop .inv
 
 depth-room : (c : tie.In-loop Inv-loop μ-loop) → c .before .loop .depth < 64
@@ -51,7 +51,7 @@ went-back : (c : tie.Else2 Inv-loop μ-loop)
     → let l = c .before .before .before .loop in
     let a = c .before .before .before .before .args in
     let d = l .depth - 1 in
-    State (a .t1) (l .jobs) (l .lefts) (l .frees) d (with (l .unplaced) (getD (l .jobs) d 0)) (getD (l .lefts) d 0) (getD (l .frees) d (pos 0)) (l .tries) (a .budget)
+    PlannerState (a .t1) (l .jobs) (l .lefts) (l .frees) d (with (l .unplaced) (getD (l .jobs) d 0)) (getD (l .lefts) d 0) (getD (l .frees) d (pos 0)) (l .tries) (a .budget)
 went-back c =
     let deeper = c .if2 .left in
     taken-back _ (c .before .before .before .before .pre .0) _ _ _ _ _ _ _ _ _ (held (c .before .before)) (c .before .before .loop-test .taken)
@@ -132,7 +132,7 @@ put-in : (c : tie.After-places Inv-loop μ-loop) → c .places .result ≡ true
     let a = head n .before .before .args in
     let j = n .take-lowest .result .member in
     let w = without width (l .unplaced) j in
-    State (a .t1) (set (l .jobs) (l .depth) j) (set (l .lefts) (l .depth) (n .take-lowest .result .rest)) (set (l .frees) (l .depth) (toZ w32 (l .free)))
+    PlannerState (a .t1) (set (l .jobs) (l .depth) j) (set (l .lefts) (l .depth) (n .take-lowest .result .rest)) (set (l .frees) (l .depth) (toZ w32 (l .free)))
     (l .depth + 1) w w (e .sum .result) (l .tries + 1) (a .budget)
 put-in c holds =
     let e = c .before .before .before in

@@ -1,7 +1,7 @@
 -- `call_raw_entries::due_to` meets its contract: it is asked of jobs alone. Assumes nothing.
 use borrow.Author.Needs.{needs}
 use Rattle.paper_board.specs.Paper.Values.{factOf}
-use Rattle.paper_rules.specs.Inference.Known.{known-more}
+use Rattle.paper_rules.specs.Inference.KnownMore.{known-more}
 use Rattle.call_raw_entries.proofs.due_to.Statement.{statement}
 use Rattle.call_raw_entries.proofs.due_to.Tie as tie
 

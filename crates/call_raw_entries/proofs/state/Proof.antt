@@ -18,15 +18,15 @@ update-requires : tie.Need-update-requires
 update-requires c κs =
     let one = c .before .before .before .before .before .before .before in
     let (within, said) = one .before .before .pre in
-    let (known, timely) = rw (one .stated2 .given .1) at said in
-    (within, known, timely)
+    let (known, applicable) = rw (one .stated2 .given .1) at said in
+    (within, known, applicable)
 
 update-both-requires : tie.Need-update-both-requires
 update-both-requires c κs =
     let two = c .before .before .before .before .before .before .before in
     let (within, said) = two .before .before .pre in
-    let (known, timely, known2, timely2) = rw (two .stated3 .given .1) at said in
-    (within, known, timely, known2, timely2)
+    let (known, applicable, known2, applicable2) = rw (two .stated3 .given .1) at said in
+    (within, known, applicable, known2, applicable2)
 
 returns : tie.Need-returns
 returns c b jobs within =

@@ -19,8 +19,8 @@ update-requires-2 c κs =
     let on = c .before .before .before .before .before .before in
     let first = on .before in
     let holds = not-false (first .update .result) (on .if1 .left) in
-    let (within, known, _, other, timely) = start first .pre in
-    (arrays-within _ _ _ _ _ _ _ _ known _ _ _ _ _ _ (rw holds at (first .update .ensures)) within, other, timely)
+    let (within, known, _, other, applicable) = start first .pre in
+    (arrays-within _ _ _ _ _ _ _ _ known _ _ _ _ _ _ (rw holds at (first .update .ensures)) within, other, applicable)
 
 returns-2 : tie.Need-returns-2
 returns-2 c =

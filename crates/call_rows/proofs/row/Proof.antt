@@ -1,28 +1,28 @@
--- `call_rows::row` meets its contract: its gate has one line. Assumes nothing.
+-- `call_rows::row` meets its contract: it has one check. Assumes nothing.
 use mathlib.Core.Path.{_≡_, sym}
 use mathlib.Core.List.{[], _∷_}
 use mathlib.Core.Option.{none}
 use native.Mathlib.Omega.{arith}
 use borrow.Author.Needs.{needs}
 use mir.ValLaws.{toZ-ofZ}
-use Rattle.paper_closure.specs.Checked.{passes-within}
-use Rattle.paper_entries.specs.Paper.Gate.{jobCheck, gate}
+use Rattle.paper_closure.specs.PassesClosed.{passes-within}
+use Rattle.paper_entries.specs.Paper.Checks.{jobCheck, firstRefusal}
 use Rattle.paper_entries.specs.Paper.Looking.{row}
-use Rattle.call_checks.specs.Values.{refusalOf}
-use Rattle.paper_entries.specs.Numbers.{IsJob, job-numbers}
+use Rattle.call_checks.specs.RefusalOf.{refusalOf}
+use Rattle.paper_entries.specs.CallNumbers.{IsJob, job-numbers}
 use Rattle.call_rows.proofs.row.Statement.{statement}
 use Rattle.call_rows.proofs.row.Tie as tie
 
--- what the gate says, with the numbers as they were given
-said : (c : tie.After-job-gate)
+-- what the check says, with the numbers as they were given
+said : (c : tie.After-job-check)
     → let a = c .before .args in
-    refusalOf (c .job-gate .result) ≡ gate (jobCheck (a .board .jobs) (a .job) ∷ [])
-said c = simp (toZ-ofZ, c .before .fits .job) at (c .job-gate .ensures)
+    refusalOf (c .job-check .result) ≡ firstRefusal (jobCheck (a .board .jobs) (a .job) ∷ [])
+said c = simp (toZ-ofZ, c .before .fits .job) at (c .job-check .ensures)
 
 -- past it no check is met
 let-pass : (c : tie.After-enum-told)
     → let a = c .before .before .before .args in
-    none ≡ gate (jobCheck (a .board .jobs) (a .job) ∷ [])
+    none ≡ firstRefusal (jobCheck (a .board .jobs) (a .job) ∷ [])
 let-pass c = rw (c .enum-told .given .1) at (said (c .before .before))
 
 numbers : (c : tie.After-enum-told) → let a = c .before .before .before .args in IsJob (a .board .jobs) (a .job)
@@ -40,8 +40,8 @@ shown-row-requires c κs =
 returns : tie.Need-returns
 unfolding row
 returns c =
-    let gated = c .before .before .before in
-    rw (gated .before .pre, ← rw (c .before .refusal .given .1) at (said gated), row)
+    let checked = c .before .before .before in
+    rw (checked .before .pre, ← rw (c .before .refusal .given .1) at (said checked), row)
 
 returns-2 : tie.Need-returns-2
 unfolding row

@@ -5,7 +5,7 @@ use mir.Syntax.{w32}
 use mir.Val.{SFits}
 use mir.ValLaws.{toZ-ofZ}
 use Rattle.ground_arithmetic.specs.Linear.{whole}
-use Rattle.paper_entries.specs.Numbers.{addition-numbers, pair-numbers, mark-numbers, cut-numbers}
+use Rattle.paper_entries.specs.CallNumbers.{addition-numbers, pair-numbers, mark-numbers, cut-numbers}
 use Rattle.call_statements.proofs.stated_by.Statement.{statement}
 use Rattle.call_statements.proofs.stated_by.Tie as tie
 

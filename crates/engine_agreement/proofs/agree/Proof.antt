@@ -1,7 +1,7 @@
 -- `engine_agreement::agree` meets its contract: the transpose of the one side is compared with the other. Assumes nothing.
 use denote.Ref.{now}
 use borrow.Author.Needs.{needs}
-use Rattle.engine_agreement.specs.Agreement.{agree-same}
+use Rattle.engine_agreement.specs.Agree.{agree-same}
 use Rattle.engine_agreement.proofs.agree.Statement.{statement}
 use Rattle.engine_agreement.proofs.agree.Tie as tie
 

@@ -1,5 +1,5 @@
 -- `engine_agreement::differences` meets its contract, by the law of the two words. Assumes nothing.
-use Rattle.engine_agreement.specs.Agreement.{decides-same}
+use Rattle.engine_agreement.specs.Agree.{decides-same}
 use Rattle.engine_agreement.proofs.differences.Statement.{statement}
 use Rattle.engine_agreement.proofs.differences.Tie as tie
 

@@ -6,8 +6,8 @@ use lib.Dec.{eqb}
 use lib.ListN.{getD}
 use denote.Ref.{now}
 use Rattle.ground_sets.specs.Bit.{width}
-use Rattle.paper_board.specs.Tests.Decides.{Decides, passed, restated}
-use Rattle.engine_agreement.specs.Agreement.{SameBits, compared}
+use Rattle.paper_board.specs.BoardTests.Decides.{Decides, passed, restated}
+use Rattle.engine_agreement.specs.Agree.{SameBits, compared}
 use borrow.Author.Needs.{needs}
 use Rattle.engine_agreement.proofs.same_words.Statement.{statement}
 use Rattle.engine_agreement.proofs.same_words.Tie as tie

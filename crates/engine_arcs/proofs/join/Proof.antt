@@ -1,7 +1,7 @@
 -- `engine_arcs::join` meets its contract: the arc is set where it is new. Assumes nothing.
 use mathlib.Core.Path.{sym, _∙_}
 use borrow.Author.Needs.{needs}
-use Rattle.paper_rules.specs.Update.Filled.{filled}
+use Rattle.paper_rules.specs.Update.ArraysWithin.{filled}
 use Rattle.paper_rules.specs.Update.Shown.{arc-shown, arc-new}
 use Rattle.engine_arcs.proofs.join.Statement.{statement}
 use Rattle.engine_arcs.proofs.join.Tie as tie

@@ -3,7 +3,7 @@ use borrow.Author.Needs.{needs}
 use mir.ValLaws.{toZ-ofZ}
 use Rattle.paper_board.specs.Paper.Values.{sideOf}
 use Rattle.engine_sums.specs.Sums.{boundOf}
-use Rattle.engine_sums.specs.Laws.{time-fits, time-back-moderate}
+use Rattle.engine_sums.specs.SumLaws.{time-fits, time-back-moderate}
 use Rattle.engine_bound_beyond.specs.BoundBeyond.{last-ends-by, last-alone, all-sums}
 use Rattle.engine_bound_beyond.proofs.bound_of.Statement.{statement}
 use Rattle.engine_bound_beyond.proofs.bound_of.Tie as tie

@@ -10,7 +10,7 @@ use mir.Val.{SFits}
 use mir.ValLaws.{toZ-ofZ}
 use Rattle.paper_board.specs.Paper.View.{rowOf}
 use Rattle.paper_board.specs.Paper.Values.{sideOf}
-use Rattle.paper_rules.specs.Update.Filled.{filled}
+use Rattle.paper_rules.specs.Update.ArraysWithin.{filled}
 use Rattle.engine_windows.specs.WindowLaws.{edge-bound}
 use Rattle.engine_bounds.proofs.is_bounded.Statement.{statement}
 use Rattle.engine_bounds.proofs.is_bounded.Tie as tie

@@ -8,11 +8,11 @@ use mir.Val.{SFits}
 use mir.ValLaws.{toZ-ofZ}
 use Rattle.ground_arithmetic.specs.Bools.{refuted}
 use Rattle.paper_board.specs.Paper.Values.{sideOf}
-use Rattle.paper_rules.specs.Update.Filled.{filled}
+use Rattle.paper_rules.specs.Update.ArraysWithin.{filled}
 use Rattle.paper_rules.specs.Update.Shown.{bound-shown}
 use Rattle.engine_windows.specs.Windows.{bounded}
 use Rattle.engine_windows.specs.WindowLaws.{bounded-moderate}
-use Rattle.engine_bounds.specs.Tightened.{bound-fits, bound-cramped}
+use Rattle.engine_bounds.specs.Tightens.{bound-fits, bound-cramped}
 use Rattle.engine_bounds.proofs.tighten.Statement.{statement}
 use Rattle.engine_bounds.proofs.tighten.Tie as tie
 

@@ -9,11 +9,11 @@ use Rattle.paper_board.specs.declared.Board.{Board}
 use Rattle.paper_board.specs.Paper.View.{view}
 use Rattle.paper_board.specs.Paper.Limits.{Within, BooksWithin}
 use Rattle.paper_rules.specs.Inference.Infers.{Obeys}
-use Rattle.paper_board.specs.Tests.LimitsDecided.{limits-yes, limits-show, decides-books}
+use Rattle.paper_board.specs.BoardTests.LimitsDecided.{limits-yes, limits-show, decides-books}
 use Rattle.engine_findings.specs.Searched.{Searched}
-use Rattle.engine_findings.specs.Values.{inferredOf}
+use Rattle.engine_findings.specs.InferredOf.{inferredOf}
 use Rattle.engine_search.specs.Reads.{arrays-hold, board-read}
-use Rattle.paper_closure.specs.Checked.{passes-within, passes-books, passes-obeys, obeys-passes}
+use Rattle.paper_closure.specs.PassesClosed.{passes-within, passes-books, passes-obeys, obeys-passes}
 use Rattle.engine_check0.proofs.passes.Statement.{statement}
 use Rattle.engine_check0.proofs.passes.Tie as tie
 

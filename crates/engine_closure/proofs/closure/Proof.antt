@@ -4,12 +4,12 @@ use borrow.Author.Needs.{needs}
 use mathlib.Core.Path.{_≡_, ap}
 use mathlib.Core.Bool.{true}
 use borrow.Author.Tests.{not-true, not-false}
-use Rattle.paper_rules.specs.Update.Filled.{arrayed, ArraysWithin}
-use Rattle.engine_findings.specs.Values.{inferredOf}
+use Rattle.paper_rules.specs.Update.ArraysWithin.{arrayed, ArraysWithin}
+use Rattle.engine_findings.specs.InferredOf.{inferredOf}
 use Rattle.engine_advance.specs.Advances.{Advances}
 use Rattle.paper_closure.specs.Measure.{measure}
 use Rattle.engine_search.specs.Reads.{arrays-hold}
-use Rattle.engine_closure.specs.InPlace.{advances-none, advances-possible, advances-within, arrays-none, arrays-next, arrays-contradict, arrays-less, led, led-closed, led-unshown, led-known, led-placed, led-timely}
+use Rattle.engine_closure.specs.LedClosed.{advances-none, advances-possible, advances-within, arrays-none, arrays-next, arrays-contradict, arrays-less, led, led-closed, led-unshown, led-known, led-placed, led-applicable}
 use Rattle.engine_closure.proofs.closure.Statement.{statement}
 use Rattle.engine_closure.proofs.closure.Tie as tie
 
@@ -72,7 +72,7 @@ update-requires c κs =
     let on = onward search in
     let reached = led (turn (ran on) .loop .inv) (possible on) (ran on .advance .ensures) in
     let is = ap inferredOf (found .found .given .1) in
-    (reached .within, led-known reached _ (search .find .ensures) _ is, led-timely reached _ (search .find .ensures) (found .found .given .0 .0) is)
+    (reached .within, led-known reached _ (search .find .ensures) _ is, led-applicable reached _ (search .find .ensures) (found .found .given .0 .0) is)
 
 returns-3 : tie.Need-returns-3 Inv-loop μ-loop
 returns-3 c =

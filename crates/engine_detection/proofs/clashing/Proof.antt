@@ -5,8 +5,8 @@ use mathlib.Core.Path.{_∙_}
 use mir.Syntax.{w32}
 use mir.ValLaws.{toZ-ofZ}
 use Rattle.paper_board.specs.Paper.Values.{sideOf}
-use Rattle.paper_board.specs.Tests.Sets.{Subset, subset-none, subset-with}
-use Rattle.engine_sums.specs.Laws.{end-moderate}
+use Rattle.paper_board.specs.BoardTests.Sets.{Subset, subset-none, subset-with}
+use Rattle.engine_sums.specs.SumLaws.{endAt-moderate}
 use Rattle.engine_detection.proofs.clashing.Statement.{statement}
 use Rattle.engine_detection.proofs.clashing.Tie as tie
 
@@ -24,7 +24,7 @@ sum-requires c κs =
     let walk = c .before in
     let start = walk .before .before .before in
     let (limit, hours, work) = start .pre in
-    let end = end-moderate (sideOf (start .args .side)) hours work (walk .take-lowest .result .member) in
+    let end = endAt-moderate (sideOf (start .args .side)) hours work (walk .take-lowest .result .member) in
     let end-is = toZ-ofZ w32 _ (record { sfits = c .end .ok }) ∙ c .end .ensures in
     simp (toZ-ofZ, start .fits .limit) (limit, rw end-is end)
 

@@ -7,8 +7,8 @@ use mir.Syntax.{w32}
 use mir.Val.{SFits, toZ, ofZ}
 use mir.ValLaws.{toZ-ofZ}
 use Rattle.paper_board.specs.Paper.View.{early}
-use Rattle.paper_board.specs.Tests.Ranges.{time-moderate}
-use Rattle.engine_sums.specs.Laws.{time-fits, length-fits, length-moderate, end-moderate}
+use Rattle.paper_board.specs.BoardTests.Ranges.{time-moderate}
+use Rattle.engine_sums.specs.SumLaws.{time-fits, length-fits, lengthAt-moderate, endAt-moderate}
 use Rattle.engine_arcs.specs.Arcs.{sound-none}
 use Rattle.engine_detection.specs.Detection.{Pair, detected}
 use Rattle.engine_detection.proofs.detect.Statement.{statement}
@@ -19,7 +19,7 @@ sum-requires c κs =
     let start = c .before .before in
     let (_, _, hours, work) = start .pre in
     let k = start .args .first in
-    simp (toZ-ofZ, time-fits (hours .time k), length-fits work k) (time-moderate (hours .time k), length-moderate work k)
+    simp (toZ-ofZ, time-fits (hours .time k), length-fits work k) (time-moderate (hours .time k), lengthAt-moderate work k)
 
 -- when the first ends at the earliest
 end-is : (c : tie.After-sum) → let start = c .before .before .before in
@@ -37,7 +37,7 @@ is-late-requires c κs =
     let start = sum .before .before .before in
     let (_, _, hours, work) = start .pre in
     let k = start .args .second in
-    simp (toZ-ofZ, length-fits work k) (rw (end-is sum) (end-moderate early hours work (start .args .first)), length-moderate work k)
+    simp (toZ-ofZ, length-fits work k) (rw (end-is sum) (endAt-moderate early hours work (start .args .first)), lengthAt-moderate work k)
 
 returns : tie.Need-returns
 returns c =

@@ -1,6 +1,6 @@
 -- `engine_detection::detect_arcs` meets its contract: all jobs that it takes are live. Assumes nothing.
 use borrow.Author.Needs.{needs}
-use Rattle.paper_board.specs.Tests.Sets.{subset-intersection}
+use Rattle.paper_board.specs.BoardTests.Sets.{subset-intersection}
 use Rattle.engine_arcs.specs.Arcs.{sound-none}
 use Rattle.engine_detection.specs.Detection.{AllLive, all-detected}
 use Rattle.engine_detection.proofs.detect_arcs.Statement.{statement}

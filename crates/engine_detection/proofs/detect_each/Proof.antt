@@ -1,6 +1,6 @@
 -- `engine_detection::detect_each` meets its contract: one job after the other. Assumes nothing.
 use borrow.Author.Needs.{needs}
-use Rattle.paper_board.specs.Tests.Sets.{Subset}
+use Rattle.paper_board.specs.BoardTests.Sets.{Subset}
 use Rattle.engine_arcs.specs.Arcs.{Sound, sound-none}
 use Rattle.engine_detection.specs.Detection.{Meeting, job-detected}
 use Rattle.engine_detection.proofs.detect_each.Statement.{statement}

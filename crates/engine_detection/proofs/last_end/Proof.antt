@@ -10,7 +10,7 @@ use mir.ValLaws.{toZ-ofZ}
 use Rattle.ground_arithmetic.specs.Bools.{by-test}
 use Rattle.ground_arithmetic.specs.Time.{Moderate, greater}
 use Rattle.paper_board.specs.Paper.Values.{sideOf}
-use Rattle.engine_sums.specs.Laws.{end-moderate}
+use Rattle.engine_sums.specs.SumLaws.{endAt-moderate}
 use Rattle.engine_detection.proofs.last_end.Statement.{statement}
 use Rattle.engine_detection.proofs.last_end.Tie as tie
 
@@ -29,7 +29,7 @@ loop-again c =
     let at = walk .before .before in
     let start = at .before in
     let (hours, work) = start .pre in
-    let end = end-moderate (sideOf (start .args .side)) hours work (walk .take-lowest .result .member) in
+    let end = endAt-moderate (sideOf (start .args .side)) hours work (walk .take-lowest .result .member) in
     let end-is = toZ-ofZ w32 _ (record { sfits = c .before .end .ok }) ∙ c .before .end .ensures in
     let last-is = toZ-ofZ w32 _ (record { sfits = c .greater .ok }) ∙ (rw end-is at (c .greater .ensures)) in
     rw last-is (moderate _ _ (at .loop .inv) end)

@@ -4,7 +4,7 @@ use borrow.Author.Tests.{not-false}
 use mathlib.Core.Path.{refl, sym, _∙_}
 use mathlib.Core.Logic.{inl, inr}
 use mir.ValLaws.{toZ-ofZ}
-use Rattle.engine_sums.specs.Laws.{time-fits}
+use Rattle.engine_sums.specs.SumLaws.{time-fits}
 use Rattle.engine_dominance.proofs.representative.Statement.{statement}
 use Rattle.engine_dominance.proofs.representative.Tie as tie
 

@@ -6,9 +6,9 @@ use mir.Val.{toZ, ofZ}
 use mir.ValLaws.{toZ-ofZ}
 use Rattle.ground_arithmetic.specs.Bools.{refuted}
 use Rattle.ground_arithmetic.specs.Linear.{whole}
-use Rattle.paper_board.specs.Paper.Values.{sideOf, turned}
+use Rattle.paper_board.specs.Paper.Values.{sideOf}
 use Rattle.engine_sums.specs.Sums.{endAt, load, boundOf}
-use Rattle.engine_sums.specs.Laws.{end-moderate, load-moderate, load-back}
+use Rattle.engine_sums.specs.SumLaws.{endAt-moderate, load-moderate, load-back}
 use Rattle.engine_energy.proofs.ends_by.Statement.{statement}
 use Rattle.engine_energy.proofs.ends_by.Tie as tie
 
@@ -25,7 +25,7 @@ sum-requires : tie.Need-sum-requires
 sum-requires c κs =
     let start = c .before .before .before in
     let (hours, work, _, _) = start .pre in
-    rw (end-is (c .before), load-is c) (end-moderate (sideOf (start .args .side)) hours work (start .args .k), load-moderate work (start .args .set))
+    rw (end-is (c .before), load-is c) (endAt-moderate (sideOf (start .args .side)) hours work (start .args .k), load-moderate work (start .args .set))
 
 returns : tie.Need-returns
 returns c = λ e. absurd (refuted refl e)

@@ -10,7 +10,7 @@ use mir.ValLaws.{toZ-ofZ}
 use Rattle.ground_arithmetic.specs.Time.{greater}
 use Rattle.paper_board.specs.Paper.Values.{sideOf, turned}
 use Rattle.engine_sums.specs.Sums.{Comes}
-use Rattle.engine_sums.specs.Laws.{InPlay, Best, low-back, all-back, back-moderate, best-moderate, turned-moderate, all-in-play, none-in-play, top-best, round, round-falls}
+use Rattle.engine_sums.specs.SumLaws.{InPlay, Best, low-back, all-back, back-moderate, best-moderate, turned-moderate, all-in-play, none-in-play, top-best, round, round-falls}
 use Rattle.engine_energy.proofs.energy_bound.Statement.{statement}
 use Rattle.engine_energy.proofs.energy_bound.Tie as tie
 

@@ -22,8 +22,8 @@ use Rattle.paper_board.specs.Paper.View.{Side}
 use Rattle.paper_board.specs.Paper.Limits.{jobLimit, lastMinute}
 use Rattle.paper_board.specs.Paper.Values.{sideOf}
 use Rattle.engine_sums.specs.Sums.{boundAt, lengthAt, Lengths, load, Strikes, none-struck, struck, Beats}
-use Rattle.engine_sums.specs.Laws.{bound-moderate, length-fits, length-moderate, load-moderate, strikes-inside}
-use Rattle.engine_sums.specs.Members.{total-without}
+use Rattle.engine_sums.specs.SumLaws.{bound-moderate, length-fits, lengthAt-moderate, load-moderate, strikes-inside}
+use Rattle.engine_sums.specs.TotalWithout.{total-without}
 use Rattle.engine_energy.specs.Passed.{Passed, none-passed, all-passed, pass, pass-struck, kept-passed}
 use Rattle.engine_energy.proofs.strike.Statement.{statement}
 use Rattle.engine_energy.proofs.strike.Tie as tie
@@ -117,7 +117,7 @@ gap-requires c κs =
     let at = walk .before .before in
     let work = at .before .pre .1 .0 in
     let k = walk .take-next .result .member in
-    (all-moderate at, simp (toZ-ofZ, length-fits work k) (length-moderate work k))
+    (all-moderate at, simp (toZ-ofZ, length-fits work k) (lengthAt-moderate work k))
 
 loop-again : tie.Need-loop-again Inv-loop μ-loop
 loop-again c =

@@ -18,7 +18,7 @@ use Rattle.paper_board.specs.Paper.View.{Side}
 use Rattle.paper_board.specs.Paper.Limits.{jobLimit}
 use Rattle.paper_board.specs.Paper.Values.{sideOf}
 use Rattle.engine_sums.specs.Sums.{boundAt, lengthAt, Times, Lengths, load, Comes}
-use Rattle.engine_sums.specs.Laws.{length-fits, length-moderate, load-range, load-none}
+use Rattle.engine_sums.specs.SumLaws.{length-fits, lengthAt-moderate, load-range, load-none}
 use Rattle.engine_energy.specs.Passed.{Passed, none-passed, all-passed, pass}
 use Rattle.engine_energy.proofs.whole.Statement.{statement}
 use Rattle.engine_energy.proofs.whole.Tie as tie
@@ -71,7 +71,7 @@ sum-requires c κs =
     let at = walk .before .before in
     let k = walk .take-lowest .result .member in
     let work = at .before .pre .1 in
-    (moderate (at .loop .inv) work, simp (toZ-ofZ, length-fits work k) (length-moderate work k))
+    (moderate (at .loop .inv) work, simp (toZ-ofZ, length-fits work k) (lengthAt-moderate work k))
 
 loop-again : tie.Need-loop-again Inv-loop μ-loop
 loop-again c =

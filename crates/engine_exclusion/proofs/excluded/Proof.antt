@@ -1,6 +1,6 @@
 -- `engine_exclusion::excluded` meets its contract: one job after the other. Assumes nothing.
 use borrow.Author.Needs.{needs}
-use Rattle.paper_board.specs.Tests.Sets.{Subset}
+use Rattle.paper_board.specs.BoardTests.Sets.{Subset}
 use Rattle.engine_exclusion.specs.Gone.{Crossed, crossed-none, crossed-more}
 use Rattle.engine_exclusion.proofs.excluded.Statement.{statement}
 use Rattle.engine_exclusion.proofs.excluded.Tie as tie

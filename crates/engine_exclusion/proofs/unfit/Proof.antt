@@ -7,9 +7,9 @@ use mir.Syntax.{w32}
 use mir.Val.{SFits}
 use mir.ValLaws.{toZ-ofZ}
 use borrow.Author.Tests.{not-true}
-use Rattle.paper_board.specs.Tests.Ranges.{time-moderate}
-use Rattle.paper_board.specs.Tests.Sets.{Subset}
-use Rattle.engine_sums.specs.Laws.{time-fits, length-fits, length-moderate}
+use Rattle.paper_board.specs.BoardTests.Ranges.{time-moderate}
+use Rattle.paper_board.specs.BoardTests.Sets.{Subset}
+use Rattle.engine_sums.specs.SumLaws.{time-fits, length-fits, lengthAt-moderate}
 use Rattle.engine_exclusion.specs.Gone.{Unfit, unfit-none, unfit-more}
 use Rattle.engine_exclusion.proofs.unfit.Statement.{statement}
 use Rattle.engine_exclusion.proofs.unfit.Tie as tie
@@ -28,7 +28,7 @@ holds-requires c κs =
     let walk = c .before .before .before in
     let (hours, work) = walk .before .before .before .pre in
     let k = walk .take-lowest .result .member in
-    simp (toZ-ofZ, time-fits (hours .time k), length-fits work k) (time-moderate (hours .time k), length-moderate work k)
+    simp (toZ-ofZ, time-fits (hours .time k), length-fits work k) (time-moderate (hours .time k), lengthAt-moderate work k)
 
 loop-again : tie.Need-loop-again Inv-loop μ-loop
 loop-again c =

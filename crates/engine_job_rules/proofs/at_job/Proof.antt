@@ -4,12 +4,12 @@ use mir.ValLaws.{toZ-ofZ}
 use borrow.Author.Tests.{not-true, not-false}
 use Rattle.paper_board.specs.declared.Board.{Board}
 use Rattle.paper_board.specs.Paper.View.{Live, early, view, rowOf}
-use Rattle.paper_board.specs.Tests.Live.{roomy}
-use Rattle.paper_board.specs.Tests.Ranges.{time-moderate}
-use Rattle.engine_sums.specs.Laws.{time-fits, length-fits, length-moderate}
-use Rattle.engine_findings.specs.Values.{inferredOf}
+use Rattle.paper_board.specs.BoardTests.Live.{roomy}
+use Rattle.paper_board.specs.BoardTests.Ranges.{time-moderate}
+use Rattle.engine_sums.specs.SumLaws.{time-fits, length-fits, lengthAt-moderate}
+use Rattle.engine_findings.specs.InferredOf.{inferredOf}
 use Rattle.engine_findings.specs.Searched.{Searched}
-use Rattle.engine_job_rules.specs.Settled.{Settled}
+use Rattle.engine_job_rules.specs.SideSettled.{SideSettled}
 use Rattle.engine_job_rules.specs.JobSearched.{JobRead, Represented, read-early, read-late, room-is, says-room, says-late}
 use borrow.Author.Needs.{needs}
 use Rattle.engine_job_rules.proofs.at_job.Statement.{statement}
@@ -35,7 +35,7 @@ raise-searched : (c : tie.After-at-side) (b : Board)
     → let start = start-of (c .before .before) in
     let a = start .args in
     Read start b → Live (view b) (a .i) → Represented (view b) early (a .early) (a .i)
-    → Searched (view b) (Settled (view b) early (a .i)) (inferredOf (c .at-side .result))
+    → Searched (view b) (SideSettled (view b) early (a .i)) (inferredOf (c .at-side .result))
 raise-searched c b h = c .at-side .ensures b (read-early h)
 
 holds-requires : tie.Need-holds-requires
@@ -43,7 +43,7 @@ holds-requires c κs =
     let start = c .before .before .before in
     let (_, starts, _, work) = start .pre in
     let i = start .args .i in
-    simp (toZ-ofZ, time-fits (starts .time i), length-fits work i) (time-moderate (starts .time i), length-moderate work i)
+    simp (toZ-ofZ, time-fits (starts .time i), length-fits work i) (time-moderate (starts .time i), lengthAt-moderate work i)
 
 returns : tie.Need-returns
 returns c b h live _ _ = says-room b _ live (sym (room-tested (c .before) b h) ∙ not-true _ (c .if1 .taken))

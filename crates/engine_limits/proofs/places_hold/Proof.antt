@@ -12,8 +12,8 @@ use borrow.Author.Count.{below-more}
 use borrow.Author.Needs.{needs}
 use Rattle.ground_arithmetic.specs.Bools.{refuted}
 use Rattle.paper_board.specs.Paper.Limits.{jobLimit}
-use Rattle.paper_board.specs.Tests.Decides.{Decides, passed, failed}
-use Rattle.engine_limits.specs.Limits.{PlaceAt}
+use Rattle.paper_board.specs.BoardTests.Decides.{Decides, passed, failed}
+use Rattle.engine_limits.specs.LimitsTested.{PlaceAt}
 use Rattle.engine_limits.proofs.places_hold.Statement.{statement}
 use Rattle.engine_limits.proofs.places_hold.Tie as tie
 

@@ -5,11 +5,11 @@ use mathlib.Core.Bool.{Bool}
 use native.Mathlib.Omega.{arith}
 use borrow.Author.Needs.{needs}
 use Rattle.paper_board.specs.Paper.Limits.{Shape}
-use Rattle.paper_board.specs.Tests.Limits.{withinLimits}
-use Rattle.paper_board.specs.Tests.Decides.{Decides, failed, second-asked, first-failed, same-decision}
-use Rattle.paper_board.specs.Tests.LimitsDecided.{decides-limits}
-use Rattle.engine_agreement.specs.Agreement.{Agree}
-use Rattle.engine_limits.specs.Limits.{Held, limits-tested}
+use Rattle.paper_board.specs.BoardTests.WithinLimits.{withinLimits}
+use Rattle.paper_board.specs.BoardTests.Decides.{Decides, failed, second-asked, first-failed, same-decision}
+use Rattle.paper_board.specs.BoardTests.LimitsDecided.{decides-limits}
+use Rattle.engine_agreement.specs.Agree.{Agree}
+use Rattle.engine_limits.specs.LimitsTested.{PlacesHeld, limits-tested}
 use Rattle.engine_limits.proofs.within_limits.Statement.{statement}
 use Rattle.engine_limits.proofs.within_limits.Tie as tie
 
@@ -22,7 +22,7 @@ returns c =
 -- where the numbers of the board are in range, the places and the agreement are left to test
 tested : (c : tie.After-b) {t : Bool}
     → let b = c .before .before .args .t1 in
-    Decides t (Held b × Agree (b .after) (b .before)) → t ≡ withinLimits b
+    Decides t (PlacesHeld b × Agree (b .after) (b .before)) → t ≡ withinLimits b
 tested c d =
     let b = c .before .before .args .t1 in
     let shape : Shape b =

@@ -12,7 +12,7 @@ use Rattle.ground_arithmetic.specs.Time.{greater}
 use Rattle.paper_board.specs.Paper.Limits.{jobLimit}
 use Rattle.paper_board.specs.Paper.Values.{sideOf}
 use Rattle.engine_sums.specs.Sums.{boundAt}
-use Rattle.engine_sums.specs.Laws.{length-fits, length-moderate, bound-moderate}
+use Rattle.engine_sums.specs.SumLaws.{length-fits, lengthAt-moderate, bound-moderate}
 use Rattle.engine_makespan.specs.Makespan.{in-range-moderate, greater-moderate, append-in-range, append-sequenced}
 use Rattle.engine_makespan.proofs.append.Statement.{statement}
 use Rattle.engine_makespan.proofs.append.Tie as tie
@@ -40,7 +40,7 @@ sum-requires c κs =
     let (hours, work, _, ends) = start .pre in
     let a = start .args in
     rw (after-is (c .before))
-    (greater-moderate (in-range-moderate work ends) (bound-moderate (sideOf (a .side)) hours (a .k)), simp (toZ-ofZ, length-fits work (a .k)) (length-moderate work (a .k)))
+    (greater-moderate (in-range-moderate work ends) (bound-moderate (sideOf (a .side)) hours (a .k)), simp (toZ-ofZ, length-fits work (a .k)) (lengthAt-moderate work (a .k)))
 
 returns-2 : tie.Need-returns-2
 returns-2 c =

@@ -1,7 +1,7 @@
 -- `engine_ordered_bound::bounded_from` meets its contract: what it finds is in the set. The measure is the word of the jobs that are left.
 -- Assumes nothing.
 use borrow.Author.Needs.{needs}
-use Rattle.paper_board.specs.Tests.Sets.{Subset, subset-none, subset-with}
+use Rattle.paper_board.specs.BoardTests.Sets.{Subset, subset-none, subset-with}
 use Rattle.engine_ordered_bound.proofs.bounded_from.Statement.{statement}
 use Rattle.engine_ordered_bound.proofs.bounded_from.Tie as tie
 

@@ -7,7 +7,7 @@ use mir.Val.{toZ, ofZ}
 use mir.ValLaws.{toZ-ofZ}
 use Rattle.ground_arithmetic.specs.Bools.{refuted}
 use Rattle.ground_arithmetic.specs.Linear.{whole}
-use Rattle.engine_sums.specs.Laws.{none-above, part-sum, back-moderate, low-back, all-back}
+use Rattle.engine_sums.specs.SumLaws.{none-above, part-sum, back-moderate, low-back, all-back}
 use Rattle.engine_ordered_bound.proofs.decides.Statement.{statement}
 use Rattle.engine_ordered_bound.proofs.decides.Tie as tie
 

@@ -1,7 +1,7 @@
 -- `engine_partners::ends_late` meets its contract: it reads the two numbers of k. Assumes nothing.
 use borrow.Author.Needs.{needs}
 use mir.ValLaws.{toZ-ofZ}
-use Rattle.engine_sums.specs.Laws.{time-fits, length-fits, length-moderate}
+use Rattle.engine_sums.specs.SumLaws.{time-fits, length-fits, lengthAt-moderate}
 use Rattle.engine_partners.proofs.ends_late.Statement.{statement}
 use Rattle.engine_partners.proofs.ends_late.Tie as tie
 
@@ -10,7 +10,7 @@ is-late-requires c κs =
     let start = c .before .before in
     let (_, end, _, work) = start .pre in
     let k = start .args .k in
-    simp (toZ-ofZ, start .fits .end, length-fits work k) (end, length-moderate work k)
+    simp (toZ-ofZ, start .fits .end, length-fits work k) (end, lengthAt-moderate work k)
 
 returns : tie.Need-returns
 returns c =

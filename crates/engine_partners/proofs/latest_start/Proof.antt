@@ -9,8 +9,8 @@ use mir.ValLaws.{toZ-ofZ}
 use Rattle.ground_sets.specs.Bit.{bit}
 use Rattle.ground_sets.specs.BitLaws.{bit-zero}
 use Rattle.ground_arithmetic.specs.Bools.{refuted}
-use Rattle.paper_board.specs.Tests.Ranges.{time-moderate}
-use Rattle.engine_sums.specs.Laws.{time-fits, length-fits, length-moderate}
+use Rattle.paper_board.specs.BoardTests.Ranges.{time-moderate}
+use Rattle.engine_sums.specs.SumLaws.{time-fits, length-fits, lengthAt-moderate}
 use Rattle.engine_partners.specs.Partners.{InTime, in-time-lesser}
 use borrow.Author.Needs.{needs}
 use Rattle.engine_partners.proofs.latest_start.Statement.{statement}
@@ -31,7 +31,7 @@ gap-requires c κs =
     let walk = c .before .before in
     let (ends, work) = walk .before .before .before .pre in
     let k = walk .take-lowest .result .member in
-    simp (toZ-ofZ, time-fits (ends .time k), length-fits work k) (time-moderate (ends .time k), length-moderate work k)
+    simp (toZ-ofZ, time-fits (ends .time k), length-fits work k) (time-moderate (ends .time k), lengthAt-moderate work k)
 
 loop-again : tie.Need-loop-again Inv-loop μ-loop
 loop-again c =

@@ -1,6 +1,6 @@
 -- `engine_partners::partners` meets its contract: what each rule leaves, together. Assumes nothing.
 use mir.ValLaws.{toZ-ofZ}
-use Rattle.engine_partners.specs.Rows.{row-left}
+use Rattle.engine_partners.specs.RowRead.{row-left}
 use borrow.Author.Needs.{needs}
 use Rattle.engine_partners.proofs.partners.Statement.{statement}
 use Rattle.engine_partners.proofs.partners.Tie as tie

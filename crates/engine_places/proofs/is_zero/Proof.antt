@@ -2,7 +2,7 @@
 use mathlib.Core.Path.{_∙_}
 use mir.ValLaws.{toZ-ofZ}
 use borrow.Author.Needs.{needs}
-use Rattle.engine_places.specs.Places.{zero-between}
+use Rattle.engine_places.specs.Place.{zero-between}
 use Rattle.engine_places.proofs.is_zero.Statement.{statement}
 use Rattle.engine_places.proofs.is_zero.Tie as tie
 

@@ -5,7 +5,7 @@ use mathlib.Core.Logic.{⊎-elim}
 use mir.ValLaws.{toZ-ofZ}
 use borrow.Author.Needs.{needs}
 use Rattle.ground_arithmetic.specs.Bools.{and-asked, and-unasked}
-use Rattle.paper_board.specs.Tests.Limits.{isZero}
+use Rattle.paper_board.specs.BoardTests.WithinLimits.{isZero}
 use Rattle.engine_places.proofs.is_zero_row.Statement.{statement}
 use Rattle.engine_places.proofs.is_zero_row.Tie as tie
 

@@ -5,8 +5,8 @@ use native.Mathlib.Omega.{arith}
 use mir.ValLaws.{toZ-ofZ}
 use borrow.Author.Needs.{needs}
 use Rattle.paper_board.specs.Paper.View.{Row}
-use Rattle.paper_board.specs.Tests.Decides.{restated, eq, lt}
-use Rattle.engine_places.specs.Places.{place-blank, place-invalid, place-live}
+use Rattle.paper_board.specs.BoardTests.Decides.{restated, eq, lt}
+use Rattle.engine_places.specs.Place.{place-blank, place-invalid, place-live}
 use Rattle.engine_places.proofs.place_holds.Statement.{statement}
 use Rattle.engine_places.proofs.place_holds.Tie as tie
 

@@ -3,13 +3,13 @@ use borrow.Author.Needs.{needs}
 use Rattle.paper_board.specs.Paper.Values.{sideOf}
 use Rattle.engine_sums.specs.Sums.{Times}
 use Rattle.engine_leading.specs.Leading.{Leaves, unknown-leaves}
-use Rattle.engine_precedence.specs.Precedence.{Raises, Shuts, Reads, raises-none, shuts-none, pushed-on}
+use Rattle.engine_precedence.specs.Precedence.{Raises, Shuts, PrecedenceRead, raises-none, shuts-none, pushed-on}
 use Rattle.engine_precedence.proofs.push.Statement.{statement}
 use Rattle.engine_precedence.proofs.push.Tie as tie
 
 abbrev Inv-loop : tie.InvT-loop
 Inv-loop side set times₀ fixed lengths beyond opposite valid order₀ all₀ known₀ left₀ times order all known left =
-    let read = Reads (sideOf side) fixed lengths beyond valid in
+    let read = PrecedenceRead (sideOf side) fixed lengths beyond valid in
     record {
       hours : Times times;
       leaves : Leaves (sideOf side) times lengths known;

@@ -11,11 +11,11 @@ use mir.Syntax.{w32}
 use mir.Val.{SFits}
 use mir.ValLaws.{toZ-ofZ}
 use Rattle.paper_board.specs.Paper.Values.{sideOf, turned}
-use Rattle.paper_board.specs.Tests.Ranges.{time-moderate}
+use Rattle.paper_board.specs.BoardTests.Ranges.{time-moderate}
 use Rattle.engine_sums.specs.Sums.{Pushes}
-use Rattle.engine_sums.specs.Laws.{time-fits, length-fits, length-moderate}
+use Rattle.engine_sums.specs.SumLaws.{time-fits, length-fits, lengthAt-moderate}
 use Rattle.engine_bound_beyond.specs.BoundBeyond.{pushing}
-use Rattle.engine_precedence.specs.Bounds.{below}
+use Rattle.engine_precedence.specs.ModerateTime.{found-below}
 use Rattle.engine_leading.specs.Leading.{LeadsTo}
 use Rattle.engine_precedence.specs.Precedence.{raises-none, raises-then, shuts-none, shuts-job, times-set, room-time, pushed-moderate}
 use Rattle.engine_precedence.proofs.push_job.Statement.{statement}
@@ -39,7 +39,7 @@ above : (c : tie.Else2)
 above c =
     let own = time-fits (start c .pre .1 .time (start c .args .job)) in
     let lower = sym (simp (toZ-ofZ, own, time-fits-32 (told c)) at (c .before .is-lower .ensures)) ∙ not-false _ (c .if2 .left) in
-    (start c .pre .4 (c .before .before .before .if1 .left), below lower)
+    (start c .pre .4 (c .before .before .before .if1 .left), found-below lower)
 
 -- and pushes it, where the set is that of the valid jobs beyond it
 beyond-it : (c : tie.Else2)
@@ -60,7 +60,7 @@ holds-requires c κs =
     let (_, hours, other, work, _) = start else .pre in
     let k = start else .args .job in
     simp (toZ-ofZ, time-fits-32 (told else), time-fits (other .time k), length-fits work k)
-    (pushed-moderate _ _ _ _ hours work (above else), time-moderate (other .time k), length-moderate work k)
+    (pushed-moderate _ _ _ _ hours work (above else), time-moderate (other .time k), lengthAt-moderate work k)
 
 returns-2 : tie.Need-returns-2
 returns-2 c =

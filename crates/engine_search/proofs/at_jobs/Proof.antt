@@ -7,11 +7,11 @@ use Rattle.ground_walks.specs.Walk.{visited, none-left}
 use Rattle.paper_board.specs.declared.Board.{Board}
 use Rattle.paper_board.specs.Paper.Limits.{jobLimit}
 use Rattle.paper_board.specs.Paper.View.{view}
-use Rattle.engine_findings.specs.Values.{inferredOf}
+use Rattle.engine_findings.specs.InferredOf.{inferredOf}
 use Rattle.engine_findings.specs.Searched.{Searched}
 use Rattle.engine_job_rules.specs.JobSearched.{JobSettled, read-early, read-late}
 use Rattle.engine_dominance.specs.Dominance.{represented}
-use Rattle.engine_search.specs.PairsWalk.{Read, JobsLeft, all-left, done-settled}
+use Rattle.engine_search.specs.PairsWalk.{BoardRead, JobsLeft, all-left, done-settled}
 use borrow.Author.Needs.{needs}
 use Rattle.engine_search.proofs.at_jobs.Statement.{statement}
 use Rattle.engine_search.proofs.at_jobs.Tie as tie
@@ -20,7 +20,7 @@ abbrev Inv-loop : tie.InvT-loop
 Inv-loop live valid earliest latest lengths before after left₀ early₀ late₀ left early late =
     (early < jobLimit)
     × (late < jobLimit)
-    × ((b : Board) → Read b live valid earliest latest lengths before after → JobsLeft (view b) left)
+    × ((b : Board) → BoardRead b live valid earliest latest lengths before after → JobsLeft (view b) left)
 
 abbrev μ-loop : tie.MeasureT-loop
 μ-loop live valid earliest latest lengths before after left₀ early₀ late₀ left early late = left
@@ -39,7 +39,7 @@ turn-of c = done-of c .before .before .before
 abbrev ReadAt : tie.Start Inv-loop μ-loop → Board → Type 0
 ReadAt s b =
     let a = s .args in
-    Read b (a .live) (a .valid) (a .earliest .now) (a .latest .now) (a .lengths .now) (a .before .now) (a .after .now)
+    BoardRead b (a .live) (a .valid) (a .earliest .now) (a .latest .now) (a .lengths .now) (a .before .now) (a .after .now)
 
 -- what the search at a job says of the board
 searched : (c : tie.After-at-job Inv-loop μ-loop) (b : Board)

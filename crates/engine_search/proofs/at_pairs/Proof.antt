@@ -5,9 +5,9 @@ use mir.Val.{toZ, ofZ}
 use mir.ValLaws.{toZ-ofZ}
 use Rattle.paper_board.specs.Paper.View.{view}
 use Rattle.engine_findings.specs.Searched.{PairObeys}
-use Rattle.engine_findings.specs.Values.{inferredOf}
-use Rattle.engine_partners.specs.Rows.{pair-read}
-use Rattle.engine_partners.specs.Settled.{PairsSettled}
+use Rattle.engine_findings.specs.InferredOf.{inferredOf}
+use Rattle.engine_partners.specs.RowRead.{pair-read}
+use Rattle.engine_partners.specs.PairSettled.{PairsSettled}
 use Rattle.engine_search.specs.PairsWalk.{AppliesAt, EarliestEnd, row-read, searched-with}
 use Rattle.engine_search.proofs.at_pairs.Statement.{statement}
 use Rattle.engine_search.proofs.at_pairs.Tie as tie

@@ -1,7 +1,7 @@
 -- `engine_search::find` meets its contract: the pairs and then the jobs are all that the rules speak of. Assumes nothing.
 use borrow.Author.Needs.{needs}
 use mathlib.Core.Path.{ap}
-use Rattle.engine_findings.specs.Values.{inferredOf}
+use Rattle.engine_findings.specs.InferredOf.{inferredOf}
 use Rattle.engine_search.specs.PairsWalk.{jobs-searched}
 use Rattle.engine_search.proofs.find.Statement.{statement}
 use Rattle.engine_search.proofs.find.Tie as tie

@@ -11,26 +11,26 @@ use Rattle.ground_walks.specs.Walk.{visited, none-left}
 use Rattle.ground_arithmetic.specs.Bools.{refuted}
 use Rattle.paper_board.specs.declared.Board.{Board}
 use Rattle.paper_board.specs.Paper.View.{Live, view}
-use Rattle.paper_board.specs.Tests.Decides.{Decides}
+use Rattle.paper_board.specs.BoardTests.Decides.{Decides}
 use Rattle.engine_findings.specs.Searched.{PairObeys}
 use Rattle.engine_search.specs.declared.Pair.the-variants.{None}
-use Rattle.engine_partners.specs.Rows.{RowRead, pair-read}
-use Rattle.engine_partners.specs.Settled.{PairsLeft, obeys-settled}
-use Rattle.engine_search.specs.PairsWalk.{Read, EarliestEnd, RowsLeft, all-left, row-read}
+use Rattle.engine_partners.specs.RowRead.{RowRead, pair-read}
+use Rattle.engine_partners.specs.PairSettled.{PairsLeft, obeys-settled}
+use Rattle.engine_search.specs.PairsWalk.{BoardRead, EarliestEnd, RowsLeft, all-left, row-read}
 use borrow.Author.Needs.{needs}
 use Rattle.engine_search.proofs.find_pair.Statement.{statement}
 use Rattle.engine_search.proofs.find_pair.Tie as tie
 
 abbrev Inv-loop : tie.InvT-loop
 Inv-loop live valid earliest latest lengths before after least found₀ rows i end into out others₀ found others =
-    (found ≡ None) × ((b : Board) → Read b live valid earliest latest lengths before after → PairsLeft (view b) i others)
+    (found ≡ None) × ((b : Board) → BoardRead b live valid earliest latest lengths before after → PairsLeft (view b) i others)
 
 abbrev μ-loop : tie.MeasureT-loop
 μ-loop live valid earliest latest lengths before after least found₀ rows i end into out others₀ found others = others
 
 abbrev Inv-pairs : tie.InvT-pairs
 Inv-pairs live valid earliest latest lengths before after least found₀ rows₀ found rows =
-    (found ≡ None) × ((b : Board) → Read b live valid earliest latest lengths before after → RowsLeft (view b) rows)
+    (found ≡ None) × ((b : Board) → BoardRead b live valid earliest latest lengths before after → RowsLeft (view b) rows)
 
 abbrev μ-pairs : tie.MeasureT-pairs
 μ-pairs live valid earliest latest lengths before after least found₀ rows₀ found rows = rows
@@ -52,7 +52,7 @@ pair-of c = c .before .before .before
 abbrev ReadAt : tie.Start Inv-loop μ-loop Inv-pairs μ-pairs → Board → Type 0
 ReadAt s b =
     let a = s .args in
-    Read b (a .live) (a .valid) (a .earliest .now) (a .latest .now) (a .lengths .now) (a .before .now) (a .after .now)
+    BoardRead b (a .live) (a .valid) (a .earliest .now) (a .latest .now) (a .lengths .now) (a .before .now) (a .after .now)
 
 -- the end of the row's job, as the machine reads it back from its bits
 end-is : (c : tie.After-earliest-end Inv-loop μ-loop Inv-pairs μ-pairs)

@@ -1,7 +1,7 @@
 -- `engine_strikes::exclude` meets its contract, mark by mark: to strike out the set of one job is to invalidate it. Assumes nothing.
 use native.Mathlib.Omega.{arith}
 use borrow.Author.Needs.{needs}
-use Rattle.paper_rules.specs.Update.Filled.{filled}
+use Rattle.paper_rules.specs.Update.ArraysWithin.{filled}
 use Rattle.paper_rules.specs.Update.Excluded.{exclude-valid, exclude-invalid, exclude-undecided}
 use Rattle.engine_strikes.proofs.exclude.Statement.{statement}
 use Rattle.engine_strikes.proofs.exclude.Tie as tie

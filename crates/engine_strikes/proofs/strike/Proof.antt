@@ -5,7 +5,7 @@ use Prim.Native.Nat.{_-_, _≤_}
 use native.Mathlib.Omega.{arith}
 use borrow.Author.Needs.{needs}
 use Rattle.paper_board.specs.declared.Board.{Board}
-use Rattle.paper_rules.specs.Update.Filled.{filled}
+use Rattle.paper_rules.specs.Update.ArraysWithin.{filled}
 use Rattle.paper_rules.specs.Update.Strike.{strikeBelow, none-below, one-below}
 use Rattle.engine_strikes.proofs.strike.Statement.{statement}
 use Rattle.engine_strikes.proofs.strike.Tie as tie

@@ -1,7 +1,7 @@
 -- `engine_strikes::strike_at` meets its contract, by the law for a job of the set and that for the others. Assumes nothing.
 use mathlib.Core.Path.{sym, _∙_}
 use borrow.Author.Needs.{needs}
-use Rattle.paper_rules.specs.Update.Filled.{filled}
+use Rattle.paper_rules.specs.Update.ArraysWithin.{filled}
 use Rattle.paper_rules.specs.Update.Strike.{at-member, at-other}
 use Rattle.engine_strikes.proofs.strike_at.Statement.{statement}
 use Rattle.engine_strikes.proofs.strike_at.Tie as tie

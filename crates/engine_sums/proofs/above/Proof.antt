@@ -4,7 +4,7 @@ use mathlib.Core.Option.{some}
 use mir.Syntax.{w32}
 use mir.ValLaws.{toZ-ofZ}
 use Rattle.paper_board.specs.Paper.Values.{sideOf, turned}
-use Rattle.engine_sums.specs.Laws.{turned-back}
+use Rattle.engine_sums.specs.SumLaws.{turned-back}
 use borrow.Author.Needs.{needs}
 use Rattle.engine_sums.proofs.above.Statement.{statement}
 use Rattle.engine_sums.proofs.above.Tie as tie

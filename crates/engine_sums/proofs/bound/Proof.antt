@@ -3,7 +3,7 @@ use mathlib.Core.Path.{_∙_}
 use native.Mathlib.Omega.{arith}
 use mir.Syntax.{w32}
 use mir.ValLaws.{toZ-ofZ}
-use Rattle.engine_sums.specs.Laws.{time-fits, time-back-moderate}
+use Rattle.engine_sums.specs.SumLaws.{time-fits, time-back-moderate}
 use Rattle.engine_sums.proofs.bound.Statement.{statement}
 use Rattle.engine_sums.proofs.bound.Tie as tie
 

@@ -4,11 +4,11 @@ use mathlib.Core.Path.{_≡_, _∙_}
 use mir.Syntax.{w32}
 use mir.Val.{toZ, ofZ}
 use mir.ValLaws.{toZ-ofZ}
-use Rattle.paper_board.specs.Tests.Ranges.{time-moderate}
+use Rattle.paper_board.specs.BoardTests.Ranges.{time-moderate}
 use Rattle.paper_board.specs.Paper.Values.{sideOf}
-use Rattle.paper_board.specs.Tests.Bounds.{turned-time}
+use Rattle.paper_board.specs.BoardTests.BoundTime.{turned-time}
 use Rattle.engine_sums.specs.Sums.{boundAt}
-use Rattle.engine_sums.specs.Laws.{length-fits, length-moderate}
+use Rattle.engine_sums.specs.SumLaws.{length-fits, lengthAt-moderate}
 use Rattle.engine_sums.proofs.end.Statement.{statement}
 use Rattle.engine_sums.proofs.end.Tie as tie
 
@@ -23,7 +23,7 @@ sum-requires c κs =
     let k = start .args .k in
     let (hours, work, _) = start .pre in
     let t = turned-time (sideOf (start .args .side)) _ (hours .time k) in
-    (rw (low-is (c .before)) (time-moderate t), simp (toZ-ofZ, length-fits work k) (length-moderate work k))
+    (rw (low-is (c .before)) (time-moderate t), simp (toZ-ofZ, length-fits work k) (lengthAt-moderate work k))
 
 returns : tie.Need-returns
 returns c =

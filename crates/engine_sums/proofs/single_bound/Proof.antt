@@ -4,7 +4,7 @@ use mir.Syntax.{w32}
 use mir.Val.{toZ, ofZ}
 use mir.ValLaws.{toZ-ofZ}
 use Rattle.paper_board.specs.Paper.Values.{sideOf, turned}
-use Rattle.engine_sums.specs.Laws.{end-moderate}
+use Rattle.engine_sums.specs.SumLaws.{endAt-moderate}
 use borrow.Author.Needs.{needs}
 use Rattle.engine_sums.proofs.single_bound.Statement.{statement}
 use Rattle.engine_sums.proofs.single_bound.Tie as tie
@@ -17,7 +17,7 @@ above-requires : tie.Need-above-requires
 above-requires c κs =
     let start = c .before .before in
     let (hours, work, _, _) = start .pre in
-    rw (toZ-ofZ w32 _ (record { sfits = c .end .ok }) ∙ c .end .ensures) (end-moderate (sideOf (start .args .side)) hours work (start .args .k))
+    rw (toZ-ofZ w32 _ (record { sfits = c .end .ok }) ∙ c .end .ensures) (endAt-moderate (sideOf (start .args .side)) hours work (start .args .k))
 
 returns : tie.Need-returns
 returns c =

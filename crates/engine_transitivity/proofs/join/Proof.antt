@@ -1,6 +1,6 @@
 -- `engine_transitivity::join` meets its contract: R1 infers each arc that it sets. Assumes nothing.
 use borrow.Author.Needs.{needs}
-use Rattle.paper_board.specs.Tests.Sets.{Subset, subset-intersection}
+use Rattle.paper_board.specs.BoardTests.Sets.{Subset, subset-intersection}
 use Rattle.engine_arcs.specs.Arcs.{Sound, sound-none}
 use Rattle.engine_transitivity.specs.Transitivity.{missing, Forth, joined}
 use Rattle.engine_transitivity.proofs.join.Statement.{statement}

@@ -1,6 +1,6 @@
 -- `engine_transitivity::join_arcs` meets its contract: one valid job after the other. Assumes nothing.
 use borrow.Author.Needs.{needs}
-use Rattle.paper_board.specs.Tests.Sets.{Subset, subset-intersection}
+use Rattle.paper_board.specs.BoardTests.Sets.{Subset, subset-intersection}
 use Rattle.engine_arcs.specs.Arcs.{Sound, sound-none}
 use Rattle.engine_transitivity.specs.Transitivity.{AllValid, through-joined}
 use Rattle.engine_transitivity.proofs.join_arcs.Statement.{statement}

@@ -1,6 +1,6 @@
 -- `engine_transitivity::join_through` meets its contract: one row after the other. Assumes nothing.
 use borrow.Author.Needs.{needs}
-use Rattle.paper_board.specs.Tests.Sets.{Subset}
+use Rattle.paper_board.specs.BoardTests.Sets.{Subset}
 use Rattle.engine_arcs.specs.Arcs.{Sound, sound-none}
 use Rattle.engine_transitivity.specs.Transitivity.{Through, row-joined}
 use Rattle.engine_transitivity.proofs.join_through.Statement.{statement}

@@ -3,8 +3,8 @@ use mathlib.Core.Path.{sym, subst, ap, _∙_}
 use native.Mathlib.Omega.{arith}
 use mir.ValLaws.{toZ-ofZ}
 use Rattle.paper_board.specs.Paper.Limits.{Within}
-use Rattle.paper_board.specs.Tests.Ranges.{ranges, time-moderate, length-moderate}
-use Rattle.paper_rules.specs.Update.Filled.{filled}
+use Rattle.paper_board.specs.BoardTests.Ranges.{ranges, time-moderate, length-moderate}
+use Rattle.paper_rules.specs.Update.ArraysWithin.{filled}
 use Rattle.paper_rules.specs.Update.Updates.{exclude}
 use Rattle.engine_updates.proofs.bound.Statement.{statement}
 use Rattle.engine_updates.proofs.bound.Tie as tie

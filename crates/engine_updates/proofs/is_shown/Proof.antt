@@ -5,7 +5,7 @@ use borrow.Author.Tests.{eqb-true}
 use mir.Syntax.{w32}
 use mir.Val.{SFits}
 use mir.ValLaws.{toZ-ofZ}
-use Rattle.paper_rules.specs.Update.Filled.{filled}
+use Rattle.paper_rules.specs.Update.ArraysWithin.{filled}
 use Rattle.paper_rules.specs.Update.Shown.{arc-shown, bound-shown, valid-shown, invalid-shown}
 use Rattle.engine_updates.proofs.is_shown.Statement.{statement}
 use Rattle.engine_updates.proofs.is_shown.Tie as tie

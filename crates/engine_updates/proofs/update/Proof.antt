@@ -4,7 +4,7 @@ use borrow.Author.Needs.{needs}
 use mir.Syntax.{w32}
 use mir.Val.{SFits}
 use mir.ValLaws.{toZ-ofZ}
-use Rattle.paper_rules.specs.Update.Filled.{filled}
+use Rattle.paper_rules.specs.Update.ArraysWithin.{filled}
 use Rattle.paper_rules.specs.Update.Updates.{update}
 use Rattle.engine_updates.proofs.update.Statement.{statement}
 use Rattle.engine_updates.proofs.update.Tie as tie
@@ -19,9 +19,9 @@ join-requires c κs =
 bound-requires : tie.Need-bound-requires
 bound-requires c κs =
     let fact = c .before .before .before .before .before .before .before in
-    let (held, known, timely) = fact .before .before .pre in
+    let (held, known, applicable) = fact .before .before .pre in
     let fits : SFits w32 (fact .fact2 .given .0 .1 .1 .0) = search needs in
-    (rw (fact .fact2 .given .1) at known, held, simp (toZ-ofZ, fits) (rw (fact .fact2 .given .1) at timely))
+    (rw (fact .fact2 .given .1) at known, held, simp (toZ-ofZ, fits) (rw (fact .fact2 .given .1) at applicable))
 
 validate-requires : tie.Need-validate-requires
 validate-requires c κs =

@@ -7,7 +7,7 @@ use lib.Signed.{_<ℤ_}
 use Rattle.ground_sets.specs.Bit.{bit}
 use Rattle.paper_board.specs.Paper.View.{View, Live, Invalid, Arc}
 use Rattle.paper_rules.specs.Paper.Rules.{E, D}
-use Rattle.paper_entries.specs.Paper.Answers.{RowReply, shows-row, PairReply, shows-pair}
+use Rattle.paper_entries.specs.Paper.Replies.{RowReply, shows-row, PairReply, shows-pair}
 
 -- "Row of a job: mark, E, D, the set before it and the set after it."
 pub record RowShows (v : View) (j : ℕ) (r : RowReply) : Type 0 where

@@ -10,13 +10,13 @@ use Rattle.paper_board.specs.Paper.Facts.{Fact}
 use Rattle.paper_board.specs.Paper.Limits.{tallyLimit}
 use Rattle.paper_board.specs.Paper.Parts.{withBooks, withTally}
 use Rattle.paper_rules.specs.Update.Updates.{update, append, _andThen_}
-use Rattle.paper_closure.specs.Closing.{closure}
-use Rattle.paper_closure.specs.Check.{passes}
+use Rattle.paper_closure.specs.Closure.{closure}
+use Rattle.paper_closure.specs.Passes.{passes}
 use Rattle.paper_entries.specs.declared.Answer.{Answer}
 use Rattle.paper_entries.specs.declared.Answer.the-variants as Answers
 use Rattle.paper_entries.specs.declared.Entered.{Entered}
 use Rattle.paper_entries.specs.Paper.Entry.{Entry, addition, other, addedRow, stated}
-use Rattle.paper_entries.specs.Paper.Gate.{checks, gate}
+use Rattle.paper_entries.specs.Paper.Checks.{checks, firstRefusal}
 
 -- the facts shown, one after the other, or none where a mark would have to change
 unfoldable pub updateAll : Board → List Fact → Option Board
@@ -57,4 +57,4 @@ judged b e none = concluded b (acceptance (b .jobs) e) (closureWith b e)
 
 -- "Checks go 0, [..] then 1 to 9, as far as a call has them."
 unfoldable pub enter : Board → Entry → Entered
-enter b e = elim (passes b) [ false ↦ refused Refused.Board b | true ↦ judged b e (gate (checks (b .jobs) e)) ]
+enter b e = elim (passes b) [ false ↦ refused Refused.Board b | true ↦ judged b e (firstRefusal (checks (b .jobs) e)) ]

@@ -9,13 +9,13 @@ use Rattle.paper_board.specs.declared.Board.{Board}
 use Rattle.paper_board.specs.declared.Refusal.the-variants as Refused
 use Rattle.paper_board.specs.Paper.View.{rowOf, arcOf, view}
 use Rattle.paper_board.specs.Paper.Tests.{live}
-use Rattle.paper_closure.specs.Check.{passes}
+use Rattle.paper_closure.specs.Passes.{passes}
 use Rattle.paper_entries.specs.declared.RowAnswer.{RowAnswer}
 use Rattle.paper_entries.specs.declared.RowAnswer.the-variants as Rows
 use Rattle.paper_entries.specs.declared.PairAnswer.{PairAnswer}
 use Rattle.paper_entries.specs.declared.PairAnswer.the-variants as Pairs
 use Rattle.paper_entries.specs.Paper.Entry.{number}
-use Rattle.paper_entries.specs.Paper.Gate.{jobCheck, pairChecks, gate}
+use Rattle.paper_entries.specs.Paper.Checks.{jobCheck, pairChecks, firstRefusal}
 
 -- "Row of a job: mark, E, D, the set before it and the set after it."
 abbrev pub rowShown : Board → ℕ → RowAnswer
@@ -27,7 +27,7 @@ unfoldable pub row : Board → ℤ → RowAnswer
 row b j =
     elim (passes b) [
       | false ↦ Rows.Refused Refused.Board
-      | true ↦ elim (gate (jobCheck (b .jobs) j ∷ [])) [ some r ↦ Rows.Refused r | none ↦ rowShown b (number j) ]
+      | true ↦ elim (firstRefusal (jobCheck (b .jobs) j ∷ [])) [ some r ↦ Rows.Refused r | none ↦ rowShown b (number j) ]
     ]
 
 -- "0 no arc, 1 A to B, 2 B to A, 3 both"
@@ -47,5 +47,5 @@ unfoldable pub pair : Board → ℤ → ℤ → PairAnswer
 pair b x y =
     elim (passes b) [
       | false ↦ Pairs.Refused Refused.Board
-      | true ↦ elim (gate (pairChecks (b .jobs) x y)) [ some r ↦ Pairs.Refused r | none ↦ pairShown b (number x) (number y) ]
+      | true ↦ elim (firstRefusal (pairChecks (b .jobs) x y)) [ some r ↦ Pairs.Refused r | none ↦ pairShown b (number x) (number y) ]
     ]

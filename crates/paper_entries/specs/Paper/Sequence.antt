@@ -9,7 +9,7 @@ use Rattle.paper_board.specs.Paper.Limits.{emptyBoard}
 use Rattle.paper_entries.specs.declared.Entered.{Entered}
 use Rattle.paper_entries.specs.Paper.Entry.{Entry}
 use Rattle.paper_entries.specs.Paper.Enter.{enter}
-use Rattle.paper_entries.specs.Paper.Answers.{Reply, ok-number, ok, no-number, replyOf}
+use Rattle.paper_entries.specs.Paper.Replies.{Reply, ok-number, ok, no-number, replyOf}
 
 -- "Every entry call exists in two manners: the board goes in and comes back; and the host's own board is altered where it
 -- is kept, with the same answers."

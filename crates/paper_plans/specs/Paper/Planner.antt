@@ -12,14 +12,14 @@ use Rattle.paper_board.specs.declared.Refusal.the-variants as Refused
 use Rattle.paper_board.specs.Paper.Limits.{jobLimit}
 use Rattle.paper_board.specs.Paper.View.{View, view}
 use Rattle.paper_board.specs.Paper.Tests.{valid}
-use Rattle.paper_closure.specs.Check.{passes}
+use Rattle.paper_closure.specs.Passes.{passes}
 use Rattle.paper_entries.specs.Paper.Entry.{number}
-use Rattle.paper_entries.specs.Paper.Gate.{budgetCheck, gate}
+use Rattle.paper_entries.specs.Paper.Checks.{budgetCheck, firstRefusal}
 use Rattle.paper_plans.specs.declared.PlanAnswer.{PlanAnswer}
 use Rattle.paper_plans.specs.declared.PlanAnswer.the-variants as Answers
 use Rattle.paper_plans.specs.declared.Planned.{Planned}
 use Rattle.paper_plans.specs.Paper.Lists.{range, keep}
-use Rattle.paper_plans.specs.Paper.Tries.{Outcome, found, none, startAfter, tries}
+use Rattle.paper_plans.specs.Paper.Tries.{Ending, found, none, startAfter, tries}
 
 -- "it tries valid unplaced jobs in ascending number"; "Undecided jobs are not placed."
 abbrev pub validJobs : View → List ℕ
@@ -44,9 +44,9 @@ withPlan v a ps = record { answer = a; placed = placedWord ps; starts = startLis
 
 -- "If this takes T tries and T is at most the budget, the answer is found or none with T; otherwise it is spent with the
 -- budget."
-abbrev pub answer : View → ℕ → Outcome → Planned
-answer v budget (found t ps) = cond (leb t budget) (withPlan v (Answers.Found t) ps) (unplanned (Answers.Spent budget))
-answer v budget (none t) = cond (leb t budget) (unplanned (Answers.None t)) (unplanned (Answers.Spent budget))
+abbrev pub plannedWithin : View → ℕ → Ending → Planned
+plannedWithin v budget (found t ps) = cond (leb t budget) (withPlan v (Answers.Found t) ps) (unplanned (Answers.Spent budget))
+plannedWithin v budget (none t) = cond (leb t budget) (unplanned (Answers.None t)) (unplanned (Answers.Spent budget))
 
 -- refusals 0 and 9
 unfoldable pub plan : Board → ℤ → Planned
@@ -54,8 +54,8 @@ plan b z =
     elim (passes b) [
       | false ↦ unplanned (Answers.Refused Refused.Board)
       | true ↦
-          elim (gate (budgetCheck z ∷ [])) [
+          elim (firstRefusal (budgetCheck z ∷ [])) [
             | Options.some r ↦ unplanned (Answers.Refused r)
-            | Options.none ↦ answer (view b) (number z) (tries (view b) (validJobs (view b)))
+            | Options.none ↦ plannedWithin (view b) (number z) (tries (view b) (validJobs (view b)))
           ]
     ]

@@ -15,18 +15,18 @@ use Rattle.paper_plans.specs.Paper.Lists.{keep, every, among}
 
 -- How tries end, with their number: all jobs are placed, and the list of them has the last one first; or all have been tried
 -- in vain.
-pub data Outcome : Type 0 where
-  found : ℕ → List ℕ → Outcome
-  none : ℕ → Outcome
+pub data Ending : Type 0 where
+  found : ℕ → List ℕ → Ending
+  none : ℕ → Ending
 
--- the outcome after t tries more
-unfoldable pub add : ℕ → Outcome → Outcome
+-- the ending after t tries more
+unfoldable pub add : ℕ → Ending → Ending
 add t (found u ps) = found (t + u) ps
 add t (none u) = none (t + u)
 
--- the second outcome, after the tries of the first, where the first finds nothing
+-- the second ending, after the tries of the first, where the first finds nothing
 infixr 30 _orElse_
-unfoldable pub _orElse_ : Outcome → Outcome → Outcome
+unfoldable pub _orElse_ : Ending → Ending → Ending
 found t ps orElse o = found t ps
 none t orElse o = add t o
 
@@ -60,21 +60,21 @@ module _ (v : View) where
 
     -- "A try places the job if every valid job with an arc to it is placed and its end is at most D"; "After a placing it goes
     -- on from the longer list", which is `deeper`
-    abbrev pub try : (List ℕ → Outcome) → List ℕ → ℕ → Outcome
+    abbrev pub try : (List ℕ → Ending) → List ℕ → ℕ → Ending
     try deeper ps j = cond (ready ps j && inTime ps j) (deeper (j ∷ ps)) (none 0)
 
     -- the jobs js still to be tried from the list ps: "Each job tried counts one"; "when all have been tried it takes back the
     -- last placing"
-    unfoldable pub from : (List ℕ → Outcome) → List ℕ → List ℕ → Outcome
+    unfoldable pub from : (List ℕ → Ending) → List ℕ → List ℕ → Ending
     from deeper ps [] = none 0
     from deeper ps (j ∷ js) = add 1 (try deeper ps j) orElse from deeper ps js
 
     -- The tries from the list ps, where n jobs are not placed yet: "It ends found when all valid jobs are placed, none when the
     -- empty list is exhausted."
-    unfoldable pub search : ℕ → List ℕ → Outcome
+    unfoldable pub search : ℕ → List ℕ → Ending
     search zero ps = found 0 ps
     search (suc n) ps = from (search n) ps (unplaced ps)
 
     -- "Starting from no jobs placed"
-    abbrev pub tries : Outcome
+    abbrev pub tries : Ending
     tries = search (length order) []

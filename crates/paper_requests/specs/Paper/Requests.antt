@@ -6,12 +6,12 @@ use mathlib.Core.Option.{Option, none, some}
 use Prim.Native.Nat.{ℕ}
 use lib.IntN.{ℤ}
 use Rattle.paper_board.specs.declared.Board.{Board}
-use Rattle.paper_entries.specs.Paper.Answers.{Reply, ok-number, ok, no-number, replyOf, RowReply, shows-row, no-row, rowReplyOf, PairReply, shows-pair, no-pair, pairReplyOf}
+use Rattle.paper_entries.specs.Paper.Replies.{Reply, ok-number, ok, no-number, replyOf, RowReply, shows-row, no-row, rowReplyOf, PairReply, shows-pair, no-pair, pairReplyOf}
 use Rattle.paper_entries.specs.Paper.Entry.{arc, mark, cut, Entry, addition, other}
 use Rattle.paper_entries.specs.Paper.Enter.{enter}
-use Rattle.paper_entries.specs.Paper.Gate.{Check, jobCheck, pairChecks, checks, budgetCheck}
+use Rattle.paper_entries.specs.Paper.Checks.{Check, jobCheck, pairChecks, checks, budgetCheck}
 use Rattle.paper_entries.specs.Paper.Looking as Looking
-use Rattle.paper_plans.specs.Paper.Answers.{PlanReply, plan-found, plan-none, plan-spent, no-plan, planReplyOf}
+use Rattle.paper_plans.specs.Paper.PlanReply.{PlanReply, plan-found, plan-none, plan-spent, no-plan, planReplyOf}
 use Rattle.paper_plans.specs.Paper.Planner as Planner
 
 -- The paper's "call", of every sort; `Call` is an entry call of a sequence, in its manner.

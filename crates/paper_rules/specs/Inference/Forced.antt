@@ -14,7 +14,7 @@ use Rattle.paper_board.specs.Paper.Facts.{Fact, is-arc, is-bound, is-invalid, H
 use Rattle.paper_rules.specs.Paper.Rules.{E, D, L, energy}
 use Rattle.paper_rules.specs.Inference.Infers.{Pushing, Infers, r1, r2, r3, r45, r6, Obeys}
 use Rattle.paper_rules.specs.Paper.Entries.{_⊑_}
-use Rattle.paper_rules.specs.Order.Laws.{below-up, valid-up, arc-up, bound-up, length-up, beyond-up}
+use Rattle.paper_rules.specs.Order.OrderLaws.{below-up, valid-up, arc-up, bound-up, length-up, beyond-up}
 
 -- a job that is not live is invalid
 pub invalid-unless : (v : View) (j : ℕ) → j < v .jobs → (Live v j → Invalid v j) → Invalid v j

@@ -10,7 +10,7 @@ use Rattle.paper_board.specs.Paper.View.{view}
 use Rattle.paper_board.specs.Paper.Facts.{Fact, is-arc, is-valid, Holds}
 use Rattle.paper_rules.specs.Paper.Entries.{Entries, Drawn, drawn, _⊑_}
 use Rattle.paper_rules.specs.Paper.Closed.{Closed, Included, LeastClosed, Least}
-use Rattle.paper_rules.specs.Inference.OnlyEntries.{least-entered}
+use Rattle.paper_rules.specs.Inference.LeastEntered.{least-entered}
 
 module _ (es : Entries) (b : Board) where
   pub least-closed : Least es b → LeastClosed es b

@@ -11,12 +11,12 @@ use Rattle.paper_board.specs.Paper.View.{View, Live, view}
 use Rattle.paper_board.specs.Paper.Facts.{Fact, Holds}
 use Rattle.paper_board.specs.Paper.Limits.{Within, BooksWithin, emptyBoard}
 use Rattle.paper_rules.specs.Paper.Entries.{Drawn, drawn, _⊑_}
-use Rattle.paper_rules.specs.Order.Unique.{alike-boards, equal-boards}
+use Rattle.paper_rules.specs.Order.LeastUnique.{alike-boards, equal-boards}
 use Rattle.paper_rules.specs.Inference.Infers.{r1, r2, r3, r45, r6, Obeys}
 use Rattle.paper_rules.specs.Update.Extension.{above-self}
 use Rattle.paper_board.specs.Paper.Tests.{implies}
-use Rattle.paper_board.specs.Tests.Limits.{all, isZero, isZeroRow, full, shape, holdsNothing, withinLimits}
-use Rattle.paper_board.specs.Tests.LimitsDecided.{limits-yes, decides-books}
+use Rattle.paper_board.specs.BoardTests.WithinLimits.{all, isZero, isZeroRow, full, shape, holdsNothing, withinLimits}
+use Rattle.paper_board.specs.BoardTests.LimitsDecided.{limits-yes, decides-books}
 
 pub within-empty : (books : Books) → Within (emptyBoard books)
 unfolding all implies eqZ isZero isZeroRow full shape holdsNothing withinLimits

@@ -8,8 +8,8 @@ use Rattle.paper_rules.specs.Inference.Infers.{Obeys}
 use Rattle.paper_board.specs.Paper.Limits.{Within, BooksWithin}
 use Rattle.paper_rules.specs.Paper.Entries.{Entries, AtLeast, shown, _⊑_}
 use Rattle.paper_rules.specs.Paper.Closed.{Closed, Least, Contradiction}
-use Rattle.paper_rules.specs.Order.Laws.{⊑-refl}
-use Rattle.paper_rules.specs.Inference.Agrees.{rules-obey}
+use Rattle.paper_rules.specs.Order.OrderLaws.{⊑-refl}
+use Rattle.paper_rules.specs.Inference.ObeysRules.{rules-obey}
 
 -- everything that v shows is in every such view
 abbrev pub Below : Entries → View → Type 0

@@ -8,12 +8,12 @@ use Rattle.paper_board.specs.Paper.View.{Row, Live, Arc, rowOf, view}
 use Rattle.paper_board.specs.Paper.Facts.{is-arc}
 use Rattle.paper_board.specs.Paper.Limits.{jobLimit, Fits, RowLimits, Within}
 use Rattle.paper_rules.specs.Paper.Entries.{Shown, drawn}
-use Rattle.paper_rules.specs.Order.Laws.{shown-refl}
+use Rattle.paper_rules.specs.Order.OrderLaws.{shown-refl}
 use Rattle.paper_rules.specs.Update.Updates.{append}
 use Rattle.paper_rules.specs.Update.Extension.{Appended}
 use Rattle.paper_rules.specs.Update.Stores.{stored-same, stored}
-use Rattle.paper_rules.specs.Update.Limits.{live-row, store-shape, live-stored}
-use Rattle.paper_rules.specs.Update.Order.{by-arcs}
+use Rattle.paper_rules.specs.Update.StoreWithin.{live-row, store-shape, live-stored}
+use Rattle.paper_rules.specs.Update.StoreLeast.{by-arcs}
 
 -- the place past the jobs is the only one that the count moves across
 one-more : (n k : ℕ) (r : Row) → k ≢ n → RowLimits n k r → RowLimits (suc n) k r

@@ -8,7 +8,7 @@ use Rattle.paper_board.specs.Paper.View.{Row, View, view}
 use Rattle.paper_board.specs.Paper.Facts.{Fact, Holds}
 use Rattle.paper_rules.specs.Inference.Infers.{Obeys}
 use Rattle.paper_rules.specs.Paper.Entries.{Shown, _⊑_}
-use Rattle.paper_rules.specs.Order.Laws.{⊑-refl}
+use Rattle.paper_rules.specs.Order.OrderLaws.{⊑-refl}
 use Rattle.paper_board.specs.Paper.Limits.{Within}
 
 -- c is b with more shown: within the limits, with n jobs, the same books, and above b

@@ -18,7 +18,7 @@ use Rattle.ground_sets.specs.BitLaws.{bit-zero, bit-with, bit-without, bit-ext}
 use Rattle.paper_board.specs.declared.Board.{Board}
 use Rattle.paper_board.specs.Paper.View.{Row, Arc, rowOf, arcOf, arcIntoOf, view}
 use Rattle.paper_board.specs.Paper.Limits.{jobLimit, Shape, Within}
-use Rattle.paper_board.specs.Tests.Ranges.{after-fits, before-fits}
+use Rattle.paper_board.specs.BoardTests.Ranges.{after-fits, before-fits}
 use Rattle.paper_rules.specs.Update.Updates.{store, link, isolate, invalidate}
 
 -- the arrays have a place for every job
@@ -40,7 +40,7 @@ module _ (b : Board) (shape : Shape b) (j : ℕ) (r : Row) (inside : j < jobLimi
         latest = same (b .latest) (r .latest) (pos 0) (shape .latest) i;
       }
 
-  pub stored-other : (k : ℕ) → k ≢ j → rowOf (store b j r) k ≡ rowOf b k
+  stored-other : (k : ℕ) → k ≢ j → rowOf (store b j r) k ≡ rowOf b k
   stored-other k ne =
       λ i. record {
         mark = getD-set-other (b .marks) j k (r .mark) 0 ne i;
@@ -97,7 +97,7 @@ module _ (words : List ℕ) (j : ℕ) (inside : j < jobLimit) (size : length wor
 
 module _ (b : Board) (within : Within b) where
   module _ (i k : ℕ) (job-i : i < b .jobs) (job-k : k < b .jobs) where
-    pub linked : (x y : ℕ) → arcOf (link b i k) x y ≡ (arcOf b x y || (eqb i x && eqb k y))
+    linked : (x y : ℕ) → arcOf (link b i k) x y ≡ (arcOf b x y || (eqb i x && eqb k y))
     linked = inserted (b .after) i k (omega (arith, within .limits .jobs, within .shape .after))
 
     pub linked-twice : (x y : ℕ) → arcIntoOf (link b i k) y x ≡ arcOf (link b i k) x y
@@ -123,7 +123,7 @@ module _ (b : Board) (within : Within b) where
             subst₂ P (eqb-true i x p) (eqb-true k y q) new
 
   module _ (j : ℕ) (job : j < b .jobs) where
-    pub unlinked : (x y : ℕ) → arcOf (invalidate b j) x y ≡ (arcOf b x y && (not (eqb j x) && not (eqb j y)))
+    unlinked : (x y : ℕ) → arcOf (invalidate b j) x y ≡ (arcOf b x y && (not (eqb j x) && not (eqb j y)))
     unlinked = isolated (b .after) j (place b within j job) (within .shape .after) (after-fits b within)
 
     pub unlinked-twice : (x y : ℕ) → arcIntoOf (invalidate b j) y x ≡ arcOf (invalidate b j) x y

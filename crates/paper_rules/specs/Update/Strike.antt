@@ -10,8 +10,8 @@ use lib.Seq.{set-getD}
 use Rattle.ground_sets.specs.Bit.{bit, difference}
 use Rattle.paper_board.specs.declared.Board.{Board}
 use Rattle.paper_board.specs.Paper.Limits.{jobLimit}
-use Rattle.paper_rules.specs.Update.Filled.{filled}
-use Rattle.paper_rules.specs.Update.Places.{changed, partly, partly-more}
+use Rattle.paper_rules.specs.Update.ArraysWithin.{filled}
+use Rattle.paper_rules.specs.Update.PartlyChanged.{changed, partly, partly-more}
 
 -- what stands at place k, where the jobs of the set get `blank`
 abbrev pub cleared : {A : Type 0} → A → ℕ → ℕ → A → A

@@ -18,12 +18,12 @@ use Rattle.ground_sets.specs.BitLaws.{setOf-with, setOf-same, bits-bound, diffe
 use Rattle.paper_board.specs.declared.Board.{Board}
 use Rattle.paper_board.specs.Paper.View.{rowOf}
 use Rattle.paper_board.specs.Paper.Limits.{jobLimit, Within}
-use Rattle.paper_board.specs.Tests.Ranges.{after-fits, before-fits}
+use Rattle.paper_board.specs.BoardTests.Ranges.{after-fits, before-fits}
 use Rattle.paper_rules.specs.Update.Updates.{isolate, invalidate}
 use Rattle.paper_rules.specs.Update.Stores.{place}
-use Rattle.paper_rules.specs.Update.Limits.{invalidate-within}
-use Rattle.paper_rules.specs.Update.Filled.{filled}
-use Rattle.paper_rules.specs.Update.Places.{partly, length-partly, getD-changed, getD-kept, partly-keeps, partly-is, partly-put}
+use Rattle.paper_rules.specs.Update.StoreWithin.{invalidate-within}
+use Rattle.paper_rules.specs.Update.ArraysWithin.{filled}
+use Rattle.paper_rules.specs.Update.PartlyChanged.{partly, length-partly, getD-changed, getD-kept, partly-keeps, partly-is, partly-put}
 use Rattle.paper_rules.specs.Update.Strike.{cleared, thinned, strikeBelow, strike}
 
 -- ---- one array where no job is struck out, and where one more is
@@ -112,7 +112,7 @@ module _ (b : Board) (within : Within b) where
       whole : (w : ℕ) → w < 2 ^ jobLimit → difference jobLimit w 0 ≡ w
       whole w h = bit-ext _ _ λ k. bit-difference jobLimit w 0 k h (omega arith) ∙ rw (bit-zero k, and-true)
 
-  pub strike-none : strike b 0 ≡ b
+  strike-none : strike b 0 ≡ b
   unfolding strikeBelow
   strike-none = λ i. filled b
       (none-cleared (pos 0) (pos 0) (b .jobs) (b .lengths) i)
@@ -123,7 +123,7 @@ module _ (b : Board) (within : Within b) where
       (none-thinned (b .jobs) (b .before) (before-fits b within) i)
 
   -- one job more
-  pub strike-with : (set j : ℕ) → set < 2 ^ jobLimit → j < b .jobs → strike b (with set j) ≡ invalidate (strike b set) j
+  strike-with : (set j : ℕ) → set < 2 ^ jobLimit → j < b .jobs → strike b (with set j) ≡ invalidate (strike b set) j
   unfolding strikeBelow
   strike-with set j inside job = λ i. filled b
       (number (pos 0) (pos 0) (b .lengths) (within .shape .lengths) i)

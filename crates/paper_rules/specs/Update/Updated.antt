@@ -20,14 +20,14 @@ use Rattle.paper_board.specs.Paper.Limits.{Fits, Within}
 use Rattle.paper_rules.specs.Paper.Entries.{Shown, _⊑_}
 use Rattle.paper_rules.specs.Inference.Forced.{invalid-unless}
 use Rattle.paper_board.specs.Paper.Tests.{live}
-use Rattle.paper_board.specs.Tests.Live.{live-yes, live-show, roomy}
+use Rattle.paper_board.specs.BoardTests.Live.{live-yes, live-show, roomy}
 use Rattle.paper_rules.specs.Update.Updates.{store, link, invalidate, raised, marked, exclude, tighten, update}
 use Rattle.paper_rules.specs.Update.Extension.{above-self, Extended, Updated}
-use Rattle.paper_rules.specs.Update.Compose.{extends-same}
+use Rattle.paper_rules.specs.Update.ExtendsThen.{extends-same}
 use Rattle.paper_rules.specs.Update.Stores.{linked-new}
-use Rattle.paper_rules.specs.Update.Limits.{store-within, invalidate-within, link-within}
-use Rattle.paper_rules.specs.Update.Rows.{raised-mark, raised-bound, raised-above, raised-least, raised-fits, raised-short, valid-above, valid-least, marked-fits}
-use Rattle.paper_rules.specs.Update.Order.{store-shows, store-above, store-least, invalidate-shows, invalidate-above, invalidate-least, link-above, link-least}
+use Rattle.paper_rules.specs.Update.StoreWithin.{store-within, invalidate-within, link-within}
+use Rattle.paper_rules.specs.Update.RaisedRows.{raised-mark, raised-bound, raised-above, raised-least, raised-fits, raised-short, valid-above, valid-least, marked-fits}
+use Rattle.paper_rules.specs.Update.StoreLeast.{store-shows, store-above, store-least, invalidate-shows, invalidate-above, invalidate-least, link-above, link-least}
 
 module _ (b : Board) (within : Within b) where
   -- where the fact holds already, b is the least

@@ -14,7 +14,7 @@ use Rattle.paper_board.specs.Paper.Parts.{filled, withJobs}
 use Rattle.paper_board.specs.Paper.View.{Row, Side, early, late, bound, rowOf, view}
 use Rattle.paper_board.specs.Paper.Facts.{Fact, is-arc, is-bound, is-valid, is-invalid}
 use Rattle.paper_board.specs.Paper.Tests.{live}
-use Rattle.paper_board.specs.Tests.Live.{roomy}
+use Rattle.paper_board.specs.BoardTests.Live.{roomy}
 use Rattle.paper_board.specs.Paper.Limits.{jobLimit, zeroRow}
 
 -- row j stored anew

@@ -13,15 +13,15 @@ use Rattle.paper_board.specs.Paper.Parts.{emptyBooks}
 use Rattle.paper_entries.specs.declared.Entered.{Entered}
 use Rattle.paper_entries.specs.Paper.Enter.{enter}
 use Rattle.paper_entries.specs.Paper.Looking.{row, pair}
-use Rattle.paper_entries.specs.Paper.Values.{entryOf}
-use Rattle.paper_entries.specs.Paper.Answers.{Reply, RowReply, PairReply, no-number, replyOf, rowReplyOf, pairReplyOf}
-use Rattle.paper_plans.specs.Paper.Answers.{PlanReply, planReplyOf}
+use Rattle.paper_entries.specs.Paper.EntryOf.{entryOf}
+use Rattle.paper_entries.specs.Paper.Replies.{Reply, RowReply, PairReply, no-number, replyOf, rowReplyOf, pairReplyOf}
+use Rattle.paper_plans.specs.Paper.PlanReply.{PlanReply, planReplyOf}
 use Rattle.paper_plans.specs.Paper.Planner.{plan}
 use Rattle.text_forms.specs.declared.Form.{Form}
 use Rattle.text_forms.specs.declared.Form.the-variants.{Entry, Row, Pair, Plan, Tally, Unknown}
 use Rattle.text_forms.specs.Paper.Forms.{formOf}
 use Rattle.text_forms.specs.Paper.Lines.{Line, ended, unended, linesOf}
-use Rattle.text_replies.specs.Paper.Replies.{entryText, rowText, pairText, planText, tallyText}
+use Rattle.text_replies.specs.Paper.ReplyTexts.{entryText, rowText, pairText, planText, tallyText}
 
 -- the answer to a line
 pub data LineReply : Type 0 where
@@ -86,8 +86,8 @@ loadLimit = 65536
 abbrev pub overloaded : Served
 overloaded = record { replies = to-entry (no-number (numberOf Refused.Load)) ∷ []; board = emptyBoard emptyBooks }
 
-unfoldable pub answer : List ℕ → Served
-answer t = cond (leb (length t) loadLimit) (serve (emptyBoard emptyBooks) (linesOf t)) overloaded
+unfoldable pub serveText : List ℕ → Served
+serveText t = cond (leb (length t) loadLimit) (serve (emptyBoard emptyBooks) (linesOf t)) overloaded
 
 -- the bytes of the answers
 unfoldable pub output : List LineReply → List ℕ

@@ -2,7 +2,7 @@
 use borrow.Author.Needs.{needs}
 use lib.ListN.{length}
 use Rattle.text_forms.specs.Paper.Forms.{shapes}
-use Rattle.text_forms.specs.Read.{made-at, none-below, made-past}
+use Rattle.text_forms.specs.FormRead.{made-at, none-below, made-past}
 use Rattle.text_forms.proofs.form_of.Statement.{statement}
 use Rattle.text_forms.proofs.form_of.Tie as tie
 

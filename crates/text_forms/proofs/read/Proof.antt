@@ -2,7 +2,7 @@
 use mathlib.Core.Path.{refl, _∙_}
 use borrow.Author.Needs.{needs}
 use Rattle.text_forms.specs.Paper.Lines.{linesOf}
-use Rattle.text_forms.specs.Read.{form-read}
+use Rattle.text_forms.specs.FormRead.{form-read}
 use Rattle.text_forms.proofs.read.Statement.{statement}
 use Rattle.text_forms.proofs.read.Tie as tie
 

@@ -12,14 +12,14 @@ use Rattle.text_forms.specs.declared.Form.{Form}
 use Rattle.text_forms.specs.declared.Form.the-variants.{Entry, Row, Pair, Plan, Tally, Unknown}
 
 -- how a form is written, `#` for a number, and what it says with its numbers: `n 0` is the first
-pub record Shape : Type 0 where
+pub record FormShape : Type 0 where
   pub format : List ℕ
   pub form : (ℕ → ℤ) → Form
 
-abbrev pub written : String → ((ℕ → ℤ) → Form) → Shape
+abbrev pub written : String → ((ℕ → ℤ) → Form) → FormShape
 written s f = record { format = bytes s; form = f }
 
-abbrev pub shapes : List Shape
+abbrev pub shapes : List FormShape
 shapes =
     written "(add (len #) (win # #) (mark #))" (λ n. Entry (Addition (n 0) (n 1) (n 2) (n 3)))
     ∷ written "(arc # #)" (λ n. Entry (Arc (n 0) (n 1)))
@@ -32,11 +32,11 @@ shapes =
     ∷ []
 
 -- what a shape says with these numbers
-abbrev pub said : Shape → List ℤ → Form
+abbrev pub said : FormShape → List ℤ → Form
 said s zs = s .form (λ k. getD zs k (pos 0))
 
 -- the first of the forms that a line is written as
-unfoldable pub firstOf : List Shape → List ℕ → Form
+unfoldable pub firstOf : List FormShape → List ℕ → Form
 firstOf [] line = Unknown
 firstOf (s ∷ ss) line = elim (scan (s .format) line) [ none ↦ firstOf ss line | some zs ↦ said s zs ]
 

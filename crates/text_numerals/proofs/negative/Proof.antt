@@ -5,7 +5,7 @@ use mathlib.Core.List.{List}
 use mathlib.Core.Path.{_≡_, sym, _∙_}
 use native.Mathlib.Omega.{arith}
 use borrow.Author.Needs.{needs}
-use Rattle.text_numerals.specs.Natural.{natural-found}
+use Rattle.text_numerals.specs.NaturalRead.{natural-found}
 use Rattle.text_numerals.specs.Negative.{few-bytes, difference-fits, zero-is-none, other-is-negative}
 use Rattle.text_numerals.specs.Numerals.{naturalAt}
 use Rattle.text_numerals.specs.declared.Numeral.the-variants.{Number}

@@ -3,7 +3,7 @@ use mathlib.Core.Path.{sym}
 use native.Mathlib.Omega.{arith}
 use borrow.Author.Needs.{needs}
 use borrow.Author.Tests.{eq-eqb, ne-eqb}
-use Rattle.text_numerals.specs.First.{number-none, number-first}
+use Rattle.text_numerals.specs.NumberFirst.{number-none, number-first}
 use Rattle.text_decimals.specs.Rest.{rest-drop}
 use Rattle.text_numerals.proofs.number.Statement.{statement}
 use Rattle.text_numerals.proofs.number.Tie as tie

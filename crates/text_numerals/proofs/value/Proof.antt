@@ -11,7 +11,7 @@ use borrow.Author.Needs.{needs}
 use Rattle.text_decimals.specs.Bytes.{isDigit}
 use Rattle.text_numerals.specs.Prefix.{prefix-within}
 use Rattle.text_numerals.specs.DigitsRead.{DigitAt, digit-at}
-use Rattle.text_numerals.specs.Natural.{natural-parts}
+use Rattle.text_numerals.specs.NaturalRead.{natural-parts}
 use Rattle.text_numerals.specs.Numerals.{digits, value}
 use Rattle.text_numerals.specs.Value.{value-short, value-go-on}
 use Rattle.text_numerals.proofs.value.Statement.{statement}

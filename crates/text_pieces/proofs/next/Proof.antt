@@ -6,10 +6,10 @@ use native.Mathlib.Omega.{arith}
 use lib.ListN.{length}
 use borrow.Author.Needs.{needs}
 use Rattle.text_decimals.specs.Rest.{rest-length}
-use Rattle.text_replies.specs.Room.{longest}
+use Rattle.text_replies.specs.Room.{answerRoom}
 use Rattle.text_numerals.specs.Prefix.{prefix-within}
 use Rattle.text_forms.specs.LineLaws.{inLine, lineLength}
-use Rattle.text_pieces.specs.Loop.{Going, going-start, going-line, full, done, last}
+use Rattle.text_pieces.specs.Going.{Going, going-start, going-line, full, done, last}
 use Rattle.text_forms.specs.Paper.Lines.{linesOf}
 use Rattle.text_answers.specs.Paper.Text.{serve}
 use Rattle.text_pieces.proofs.next.Statement.{statement}
@@ -23,14 +23,14 @@ abbrev μ-loop : tie.MeasureT-loop
 μ-loop text out₀ board₀ rest₀ at₀ out board rest at = length rest
 
 -- room for an answer
-space : (c : tie.Else1 Inv-loop μ-loop) → c .before .before .loop .at + longest ≤ length (c .before .before .loop .out)
+space : (c : tie.Else1 Inv-loop μ-loop) → c .before .before .loop .at + answerRoom ≤ length (c .before .before .loop .out)
 space c = omega (arith, c .if1 .left, c .before .before .loop .inv .1 .written)
 
 -- places that the answers look back to: where the loop begins, and the line that is answered
 abbrev head : tie.After-line-length Inv-loop μ-loop → tie.At-loop Inv-loop μ-loop
 head c = c .before .before .before
 
-abbrev line : tie.After-answer Inv-loop μ-loop → tie.Else2 Inv-loop μ-loop
+abbrev line : tie.After-carry-out Inv-loop μ-loop → tie.Else2 Inv-loop μ-loop
 line c = c .before .before .before .before
 
 -- the line has its line feed
@@ -78,8 +78,8 @@ part-read-start c = omega (arith, ended c)
 part-read-end : tie.Need-part-read-end Inv-loop μ-loop
 part-read-end c = omega (arith, ended c)
 
-answer-requires : tie.Need-answer-requires Inv-loop μ-loop
-answer-requires c κs = let length = c .before .before .before .before in (head length .loop .inv .1 .passes, space (length .before))
+carry-out-requires : tie.Need-carry-out-requires Inv-loop μ-loop
+carry-out-requires c κs = let length = c .before .before .before .before in (head length .loop .inv .1 .passes, space (length .before))
 
 add-after : tie.Need-add-after Inv-loop μ-loop
 add-after c =
@@ -106,9 +106,9 @@ loop-again c =
     let read = line a in
     let at = head (read .before) in
     let (is, more) = ended read in (
-      a .answer .kept .1 .1 .0 ∙ at .loop .inv .0,
+      a .carry-out .kept .1 .1 .0 ∙ at .loop .inv .0,
       rw is
-          (going-line _ _ _ _ _ _ (at .loop .inv .1) _ _ _ (space (read .before .before)) (a .answer .kept .1 .1 .0) more (rw (a .before .before .read .ensures, sub-zero, is) at (a .answer .ensures))),
+          (going-line _ _ _ _ _ _ (at .loop .inv .1) _ _ _ (space (read .before .before)) (a .carry-out .kept .1 .1 .0) more (rw (a .before .before .read .ensures, sub-zero, is) at (a .carry-out .ensures))),
     )
 
 same-length-3 : tie.Need-same-length-3 Inv-loop μ-loop
@@ -136,7 +136,7 @@ next-spec =
     part-read-start
     part-read-end
     (λ c κs. search needs)
-    answer-requires
+    carry-out-requires
     add-after
     sub-rest
     part-rest-start

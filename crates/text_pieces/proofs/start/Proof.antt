@@ -2,8 +2,8 @@
 use borrow.Author.Needs.{needs}
 use Rattle.paper_board.specs.Paper.Parts.{emptyBooks}
 use Rattle.paper_rules.specs.Order.Empty.{within-emptyBooks}
-use Rattle.paper_closure.specs.Checked.{empty-passes}
-use Rattle.text_pieces.specs.Load.{overloaded-answers, loaded-answers}
+use Rattle.paper_closure.specs.PassesClosed.{empty-passes}
+use Rattle.text_pieces.specs.LoadedAnswers.{overloaded-answers, loaded-answers}
 use Rattle.text_pieces.proofs.start.Statement.{statement}
 use Rattle.text_pieces.proofs.start.Tie as tie
 

@@ -10,9 +10,9 @@ use mir.ValLaws.{toZ-ofZ}
 use borrow.Author.Needs.{needs}
 use Rattle.text_decimals.specs.Written.{Written, nothing-written, weaken-written, append-written}
 use Rattle.paper_board.specs.Paper.Limits.{jobLimit}
-use Rattle.paper_plans.specs.Paper.Answers.{placing}
+use Rattle.paper_plans.specs.Paper.PlanReply.{placing}
 use Rattle.paper_plans.specs.Paper.Lists.{range}
-use Rattle.text_replies.specs.Paper.Replies.{placementsText}
+use Rattle.text_replies.specs.Paper.ReplyTexts.{placementsText}
 use Rattle.text_plans.specs.Placements.{no-placements, next-placement}
 use Rattle.text_replies.specs.Room.{placementRoom}
 use Rattle.text_plans.proofs.put_placements.Statement.{statement}

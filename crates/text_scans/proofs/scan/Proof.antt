@@ -9,17 +9,17 @@ use mir.Syntax.{w32}
 use mir.ValLaws.{toZ-ofZ}
 use borrow.Author.Needs.{needs}
 use borrow.Author.Tests.{not-true, not-false}
-use Rattle.text_numerals.specs.Exact.{Reads, read-number}
-use Rattle.text_numerals.specs.Natural.{short-fits}
+use Rattle.text_numerals.specs.NumberRead.{ReadsNumber, read-number}
+use Rattle.text_numerals.specs.NaturalRead.{short-fits}
 use Rattle.text_numerals.specs.Numerals.{numberAt}
 use Rattle.text_numerals.specs.declared.Numeral.the-variants.{Number}
-use Rattle.text_scans.specs.Loop.{State, at-start, place-left, number-taken, number-missing, byte-taken, byte-missing, at-end, as-parts}
+use Rattle.text_scans.specs.ScanState.{ScanState, at-start, place-left, number-taken, number-missing, byte-taken, byte-missing, at-end, as-parts}
 use Rattle.text_scans.specs.Scan.{startsWith, starts-some}
 use Rattle.text_scans.proofs.scan.Statement.{statement}
 use Rattle.text_scans.proofs.scan.Tie as tie
 
 abbrev Inv-loop : tie.InvT-loop
-Inv-loop format text f₀ t₀ numbers₀ count₀ f t numbers count = State format text f t numbers count
+Inv-loop format text f₀ t₀ numbers₀ count₀ f t numbers count = ScanState format text f t numbers count
 
 abbrev μ-loop : tie.MeasureT-loop
 μ-loop format text f₀ t₀ numbers₀ count₀ f t numbers count = length f
@@ -33,7 +33,7 @@ value c = c .length .given .0 .1 .0
 found : (c : tie.After-length Inv-loop μ-loop) → numberAt (head c .before .loop .t .now) ≡ Number (c .length .given .0 .0) (value c)
 found c = sym (c .before .before .number .ensures) ∙ c .length .given .1
 
-reads : (c : tie.After-length Inv-loop μ-loop) → Reads (head c .before .loop .t .now) (c .length .given .0 .0) (value c)
+reads : (c : tie.After-length Inv-loop μ-loop) → ReadsNumber (head c .before .loop .t .now) (c .length .given .0 .0) (value c)
 reads c = read-number _ _ _ (found c)
 
 abbrev tested : tie.After-starts-with Inv-loop μ-loop → tie.In-loop Inv-loop μ-loop

@@ -1,7 +1,7 @@
 -- `call_dock::Dock::enter` meets its contract: check 0 comes first. Assumes nothing.
 use mathlib.Core.Path.{sym, _∙_}
 use borrow.Author.Needs.{needs}
-use Rattle.paper_entries.specs.Stepped.{enter-refused}
+use Rattle.paper_entries.specs.EnterOutcome.{enter-refused}
 use Rattle.call_dock.proofs.Dock.enter.Statement.{statement}
 use Rattle.call_dock.proofs.Dock.enter.Tie as tie
 

@@ -2,7 +2,7 @@
 use mathlib.Core.Path.{_≡_}
 use mathlib.Core.List.{[], _∷_}
 use Rattle.paper_entries.specs.Paper.Enter as paper
-use Rattle.paper_entries.specs.Paper.Values.{entryOf}
+use Rattle.paper_entries.specs.Paper.EntryOf.{entryOf}
 use Rattle.call_in_place.proofs.Carried.{value}
 use Rattle.call_in_place.proofs.Handed.{entry}
 use Rattle.call_in_place.proofs.enter.Met.{met}

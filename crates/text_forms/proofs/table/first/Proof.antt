@@ -9,7 +9,7 @@ use Rattle.text_decimals.specs.Rest.{rest-length}
 use Rattle.text_formats.specs.Format as formats
 use Rattle.text_scans.specs.Scan.{scanned}
 use Rattle.text_forms.specs.LineLaws.{lineLength}
-use Rattle.text_forms.specs.TableLaws.{Scanning, First, first-line, scanning-start, none-left, found-here, found-later}
+use Rattle.text_forms.specs.FormTableLaws.{Scanning, First, first-line, scanning-start, none-left, found-here, found-later}
 use Rattle.text_forms.proofs.table.first.Statement.{statement}
 use Rattle.text_forms.proofs.table.first.Tie as tie
 

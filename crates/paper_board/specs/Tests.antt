@@ -1,8 +1,0 @@
--- Boolean tests of a board, and what they decide; sets of jobs.
-pub mod Live
-pub mod Decides
-pub mod Limits
-pub mod LimitsDecided
-pub mod Ranges
-pub mod Bounds
-pub mod Sets
