@@ -5,5 +5,5 @@ use Rattle.call_checks.specs.declared.Checked as Results
 
 -- the refusal that a call meets, if any
 abbrev pub refusalOf : Results.Checked → Option Refusal
-refusalOf Results.the-variants.Unmet = none
-refusalOf (Results.the-variants.Met r) = some r
+refusalOf Results.the-variants.Passed = none
+refusalOf (Results.the-variants.Refused r) = some r

@@ -12,17 +12,21 @@ ghost use Rattle.paper_entries.specs.Paper.Checks as paper;
 ghost use Rattle.paper_entries.specs.Paper.Checks.{Check, isJob, jobCheck, pairChecks, budgetCheck, firstRefusal};
 ghost use Rattle.call_checks.specs.RefusalOf.{refusalOf};
 
-// What the checks say of a call: none is met, or the refusal of the first that is.
+// What the checks say of a call: they let it pass, or the refusal of the first that doesn't.
 pub enum Checked {
-    Unmet,
-    Met(Refusal),
+    Passed,
+    Refused(Refusal),
 }
 
 // A line of the table, and what the lines after it say.
-pub fn line(refusal: Refusal, met: bool, rest: Checked) -> Checked
-    ensures { λ r. ⌜ ((cs : List Check) → refusalOf rest ≡ firstRefusal cs → refusalOf r ≡ firstRefusal (paper.line refusal met ∷ cs)) ⌝ }
+pub fn line(refusal: Refusal, refuses: bool, rest: Checked) -> Checked
+    ensures { λ r. ⌜ ((cs : List Check) → refusalOf rest ≡ firstRefusal cs → refusalOf r ≡ firstRefusal (paper.line refusal refuses ∷ cs)) ⌝ }
 {
-    if met { Checked::Met(refusal) } else { rest }
+    if refuses {
+        Checked::Refused(refusal)
+    } else {
+        rest
+    }
 }
 
 // A number that is not negative, as the number of a job.
@@ -72,7 +76,7 @@ fn is_same(a: i32, b: i32) -> bool
 pub fn job_check(jobs: usize, job: i32) -> Checked
     ensures { λ r. ⌜ refusalOf r ≡ firstRefusal (jobCheck jobs job ∷ []) ⌝ }
 {
-    line(Refusal::Job, !is_job(jobs, job), Checked::Unmet)
+    line(Refusal::Job, !is_job(jobs, job), Checked::Passed)
 }
 
 // 2 job, 3 same
@@ -82,7 +86,7 @@ pub fn pair_checks(jobs: usize, a: i32, b: i32) -> Checked
     line(
         Refusal::Job,
         !are_jobs(jobs, a, b),
-        line(Refusal::Same, is_same(a, b), Checked::Unmet),
+        line(Refusal::Same, is_same(a, b), Checked::Passed),
     )
 }
 
@@ -93,5 +97,9 @@ const BUDGET: i32 = 1000000;
 pub fn budget_check(budget: i32) -> Checked
     ensures { λ r. ⌜ refusalOf r ≡ firstRefusal (budgetCheck budget ∷ []) ⌝ }
 {
-    line(Refusal::Budget, !between(0, BUDGET, budget), Checked::Unmet)
+    line(
+        Refusal::Budget,
+        !between(0, BUDGET, budget),
+        Checked::Passed,
+    )
 }

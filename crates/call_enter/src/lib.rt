@@ -82,7 +82,7 @@ pub fn enter(board: Board, entry: Entry) -> Entered
     ensures { λ r. ⌜ r ≡ paper.enter board (entryOf entry) ⌝ }
 {
     match entry_checks(board.jobs, entry) {
-        Checked::Met(refusal) => refused(refusal, board),
-        Checked::Unmet => decide(board, stated_by(entry), acceptance(board.jobs, entry)),
+        Checked::Refused(refusal) => refused(refusal, board),
+        Checked::Passed => decide(board, stated_by(entry), acceptance(board.jobs, entry)),
     }
 }

@@ -43,7 +43,7 @@ fn mark_checks(jobs: usize, job: i32, mark: i32) -> Checked
     line(
         Refusal::Job,
         !is_job(jobs, job),
-        line(Refusal::Mark, !taken, Checked::Unmet),
+        line(Refusal::Mark, !taken, Checked::Passed),
     )
 }
 
@@ -54,7 +54,7 @@ fn cut_checks(jobs: usize, job: i32, earliest: i32, latest: i32) -> Checked
     line(
         Refusal::Job,
         !is_job(jobs, job),
-        window_lines(earliest, latest, Checked::Unmet),
+        window_lines(earliest, latest, Checked::Passed),
     )
 }
 
@@ -72,7 +72,7 @@ fn addition_checks(jobs: usize, length: i32, earliest: i32, latest: i32, mark: i
             window_lines(
                 earliest,
                 latest,
-                line(Refusal::Mark, !taken, Checked::Unmet),
+                line(Refusal::Mark, !taken, Checked::Passed),
             ),
         ),
     )

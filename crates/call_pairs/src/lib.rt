@@ -69,7 +69,7 @@ pub fn pair(board: Board, a: i32, b: i32) -> PairAnswer
     ensures { λ r. ⌜ r ≡ looking.pair board a b ⌝ }
 {
     match pair_checks(board.jobs, a, b) {
-        Checked::Met(refusal) => PairAnswer::Refused(refusal),
-        Checked::Unmet => shown_pair(board, index(a), index(b)),
+        Checked::Refused(refusal) => PairAnswer::Refused(refusal),
+        Checked::Passed => shown_pair(board, index(a), index(b)),
     }
 }

@@ -70,8 +70,8 @@ pub fn plan(board: Board, budget: i32) -> Planned
     ensures { λ r. ⌜ r ≡ paper.plan board budget ⌝ }
 {
     match budget_check(budget) {
-        Checked::Met(refusal) => unplanned(PlanAnswer::Refused(refusal)),
-        Checked::Unmet => search(
+        Checked::Refused(refusal) => unplanned(PlanAnswer::Refused(refusal)),
+        Checked::Passed => search(
             board,
             marked(board.jobs, &board.marks, Board::VALID),
             budget_value(budget),

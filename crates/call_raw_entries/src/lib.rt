@@ -14,7 +14,7 @@ ghost use mathlib.Core.Option.{some};
 ghost use Prim.Native.Nat.{_≤_};
 ghost use Rattle.paper_board.specs.declared.Board as boards;
 ghost use Rattle.paper_board.specs.Paper.Limits.{jobLimit, Within};
-ghost use Rattle.paper_board.specs.Paper.Facts.{Known};
+ghost use Rattle.paper_board.specs.Paper.Facts.{AboutJobs};
 ghost use Rattle.paper_board.specs.Paper.Values.{factOf};
 ghost use Rattle.paper_rules.specs.Update.ArraysWithin.{filled, ArraysWithin, Alters};
 ghost use Rattle.engine_updates.specs.Applicable.{Applicable};
@@ -66,7 +66,7 @@ fn update_both(
     first: Fact,
     second: Fact,
 ) -> bool
-    requires { ⌜ ArraysWithin jobs (now lengths) (now earliest) (now latest) (now marks) (now after) (now before) × Known jobs (factOf first) × Applicable first × Known jobs (factOf second) × Applicable second ⌝ }
+    requires { ⌜ ArraysWithin jobs (now lengths) (now earliest) (now latest) (now marks) (now after) (now before) × AboutJobs jobs (factOf first) × Applicable first × AboutJobs jobs (factOf second) × Applicable second ⌝ }
     ensures { λ r. ⌜ Alters jobs (λ b. updateAll b (factOf first ∷ factOf second ∷ [])) (now (lengths .entry)) (now (earliest .entry)) (now (latest .entry)) (now (marks .entry)) (now (after .entry)) (now (before .entry)) r (now (lengths .exit)) (now (earliest .exit)) (now (latest .exit)) (now (marks .exit)) (now (after .exit)) (now (before .exit)) ⌝ }
 {
     if !update(jobs, lengths, earliest, latest, marks, after, before, first) {

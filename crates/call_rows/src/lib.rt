@@ -29,7 +29,7 @@ pub fn row(board: Board, job: i32) -> RowAnswer
     ensures { λ r. ⌜ r ≡ looking.row board job ⌝ }
 {
     match job_check(board.jobs, job) {
-        Checked::Met(refusal) => RowAnswer::Refused(refusal),
-        Checked::Unmet => shown_row(board, index(job)),
+        Checked::Refused(refusal) => RowAnswer::Refused(refusal),
+        Checked::Passed => shown_row(board, index(job)),
     }
 }

@@ -8,7 +8,7 @@ use Prim.Native.Nat.{ℕ, suc, _<_, _≤_}
 use lib.IntN.{ℤ}
 use lib.ListN.{set}
 use Rattle.paper_board.specs.declared.Board.{Board}
-use Rattle.paper_board.specs.Paper.Facts.{Fact, Known}
+use Rattle.paper_board.specs.Paper.Facts.{Fact, AboutJobs}
 use Rattle.paper_board.specs.Paper.View as Rows
 use Rattle.paper_board.specs.Paper.Limits.{jobLimit, Fits, Within}
 use Rattle.paper_board.specs.Paper.Parts.{withJobs}
@@ -19,8 +19,8 @@ use Rattle.paper_rules.specs.Update.Extension.{Extends, HasRow, Updated}
 use Rattle.paper_rules.specs.Update.Appended.{appended}
 use Rattle.paper_rules.specs.Update.Updated.{updated}
 use Rattle.engine_updates.specs.Applicable.{Applicable}
-use Rattle.paper_rules.specs.Inference.KnownMore.{known-more}
-use Rattle.paper_entries.specs.Allowed.{KnownAll}
+use Rattle.paper_rules.specs.Inference.AboutMore.{about-more}
+use Rattle.paper_entries.specs.Allowed.{AllAboutJobs}
 use Rattle.paper_entries.specs.ShowsEntry.{HoldAll}
 use Rattle.paper_entries.specs.RawShown.{updated-all}
 use Rattle.paper_entries.specs.Paper.Enter.{updateAll}
@@ -48,14 +48,14 @@ grown b s = withJobs b (jobsWith (b .jobs) s)
 -- there is a place for the row, which is within its limits, and the facts are about jobs of the board
 abbrev pub Storable : ℕ → Stated → Type 0
 Storable n (Row length earliest latest mark) = (n < jobLimit) × Fits (statedRow length earliest latest mark) × (mark ≤ 1)
-Storable n (One f) = Known n (factOf f) × Applicable f
-Storable n (Two f g) = Known n (factOf f) × Applicable f × Known n (factOf g) × Applicable g
+Storable n (One f) = AboutJobs n (factOf f) × Applicable f
+Storable n (Two f g) = AboutJobs n (factOf f) × Applicable f × AboutJobs n (factOf g) × Applicable g
 
 -- the facts are about jobs that have a place
 abbrev pub HavePlaces : Stated → Type 0
 HavePlaces (Row length earliest latest mark) = Unit
-HavePlaces (One f) = Known jobLimit (factOf f)
-HavePlaces (Two f g) = Known jobLimit (factOf f) × Known jobLimit (factOf g)
+HavePlaces (One f) = AboutJobs jobLimit (factOf f)
+HavePlaces (Two f g) = AboutJobs jobLimit (factOf f) × AboutJobs jobLimit (factOf g)
 
 -- on any board of n jobs within its limits the arrays are altered to those of the board that shows what is stated, or there is none
 abbrev pub States : Stated → ℕ → List ℤ → List ℤ → List ℤ → List ℕ → List ℕ → List ℕ → Bool → List ℤ → List ℤ → List ℤ → List ℕ → List ℕ → List ℕ → Type 0
@@ -66,12 +66,12 @@ States s n lengths earliest latest marks after before possible lengths' earliest
 -- facts that have a place among n jobs have one among all
 pub have-places : (n : ℕ) (s : Stated) → n ≤ jobLimit → Storable n s → HavePlaces s
 have-places n (Row length earliest latest mark) l h = tt
-have-places n (One f) l (known, _) = known-more l (factOf f) known
-have-places n (Two f g) l (first, _, second, _) = (known-more l (factOf f) first, known-more l (factOf g) second)
+have-places n (One f) l (known, _) = about-more l (factOf f) known
+have-places n (Two f g) l (first, _, second, _) = (about-more l (factOf f) first, about-more l (factOf g) second)
 
 -- the board that shows what is stated is within its limits
 module _ (b : Board) (h : Within b) where
-  facts-within : (fs : List Fact) → KnownAll (b .jobs) fs → (c : Board) → updateAll b fs ≡ some c → Within c
+  facts-within : (fs : List Fact) → AllAboutJobs (b .jobs) fs → (c : Board) → updateAll b fs ≡ some c → Within c
   facts-within fs known c is = subst (Extends (b .jobs) (HoldAll fs) b) is (updated-all b h fs known) .more .within
 
   pub stated-within : (s : Stated) → Storable (b .jobs) s → (c : Board) → rawOf b s ≡ some c → Within c
@@ -79,12 +79,12 @@ module _ (b : Board) (h : Within b) where
       let r = statedRow length earliest latest mark in
       subst (Extends (suc (b .jobs)) (HasRow (b .jobs) r) b) is (appended b r h room fits low) .more .within
   stated-within (One f) (known, _) c is =
-      facts-within (factOf f ∷ []) (λ x m. subst⁻¹ (Known (b .jobs)) (List·Memᴰ·eq-of-singleton m) known) c is
+      facts-within (factOf f ∷ []) (λ x m. subst⁻¹ (AboutJobs (b .jobs)) (List·Memᴰ·eq-of-singleton m) known) c is
   stated-within (Two f g) (first, _, second, _) c is = facts-within (factOf f ∷ factOf g ∷ []) either c is
     where
-      either : KnownAll (b .jobs) (factOf f ∷ factOf g ∷ [])
+      either : AllAboutJobs (b .jobs) (factOf f ∷ factOf g ∷ [])
       either x m =
-          ⊎-elim (λ e. subst⁻¹ (Known (b .jobs)) e first) (λ l. subst⁻¹ (Known (b .jobs)) (List·Memᴰ·eq-of-singleton l) second)
+          ⊎-elim (λ e. subst⁻¹ (AboutJobs (b .jobs)) e first) (λ l. subst⁻¹ (AboutJobs (b .jobs)) (List·Memᴰ·eq-of-singleton l) second)
           (List·Memᴰ·cases-cons m)
 
 -- ---- facts that the board shows
@@ -107,13 +107,13 @@ one-fact b f = same (update b f)
     same none = refl
     same (some c) = refl
 
-module _ (n : ℕ) (lengths earliest latest : List ℤ) (marks after before : List ℕ) (f : Fact) (known : Known n f)
+module _ (n : ℕ) (lengths earliest latest : List ℤ) (marks after before : List ℕ) (f : Fact) (known : AboutJobs n f)
     (lengths' earliest' latest' : List ℤ) (marks' after' before' : List ℕ)
     (step : Alters n (λ b. update b f) lengths earliest latest marks after before true lengths' earliest' latest' marks' after' before') where
   -- the board that a fact leads to is within its limits
   step-within : (b : Board) → b .jobs ≡ n → Within (filled b lengths earliest latest marks after before) → Within (filled b lengths' earliest' latest' marks' after' before')
   step-within b jobs within =
-      let led = updated (filled b lengths earliest latest marks after before) within f (subst (λ m. Known m f) (sym jobs) known) in
+      let led = updated (filled b lengths earliest latest marks after before) within f (subst (λ m. AboutJobs m f) (sym jobs) known) in
       subst (Updated (filled b lengths earliest latest marks after before) f) (step b jobs within) led .more .within
 
   pub arrays-within : ArraysWithin n lengths earliest latest marks after before → ArraysWithin n lengths' earliest' latest' marks' after' before'

@@ -21,10 +21,10 @@ use Rattle.call_statements.specs.declared.Stated.{Stated}
 use Rattle.call_statements.specs.declared.Stated.the-variants.{Row, One, Two}
 use Rattle.call_statements.specs.Stated.{rawOf, Storable}
 
--- the entry meets no check of the table on a board of so many jobs
+-- the entry passes the checks of the table on a board of so many jobs
 pub record ChecksPassed (e : Entry) : Type 0 where
   pub jobs : ℕ
-  pub unmet : firstRefusal (checks jobs e) ≡ none
+  pub passed : firstRefusal (checks jobs e) ≡ none
 
 abbrev pub statedBy : Entry → Stated
 statedBy (addition l e d m) = Row l e d (number m)

@@ -9,7 +9,7 @@ use lib.IntN.{ℤ}
 use Rattle.paper_board.specs.declared.Board.{Board}
 use Rattle.paper_board.specs.Paper.View.{view}
 use Rattle.paper_board.specs.declared.facts.Fact as Facts
-use Rattle.paper_board.specs.Paper.Facts.{Fact, Holds, Known}
+use Rattle.paper_board.specs.Paper.Facts.{Fact, Holds, AboutJobs}
 use Rattle.paper_board.specs.Paper.Limits.{jobLimit, Within}
 use Rattle.paper_board.specs.Paper.Values.{factOf}
 use Rattle.paper_rules.specs.Inference.Infers.{Infers, Obeys}
@@ -22,7 +22,7 @@ use Rattle.engine_findings.specs.Searched.{Searched}
 use Rattle.engine_search.specs.PairsWalk.{ReadSearched}
 use Rattle.engine_advance.specs.Advances.{Advances}
 use Rattle.paper_closure.specs.Closure.{closure}
-use Rattle.paper_rules.specs.Inference.KnownMore.{known-more}
+use Rattle.paper_rules.specs.Inference.AboutMore.{about-more}
 use Rattle.paper_closure.specs.Measure.{measure, measure-mono}
 use Rattle.engine_search.specs.Reads.{board-read}
 use Rattle.engine_closure.specs.InferredApplicable.{inferred-applicable}
@@ -140,13 +140,13 @@ module _ {n : ℕ} {lengths₀ earliest₀ latest₀ : List ℤ} {marks₀ after
     pub led-unshown : OnArrays (Unshown f) n lengths earliest latest marks after before
     led-unshown b jobs within = rw e at (searched b jobs within)
 
-    pub led-known : Known n f
+    pub led-known : AboutJobs n f
     led-known =
         let b = h .within .board in
-        subst (λ m. Known m f) (h .within .jobs) (infers-known (view (filled b lengths earliest latest marks after before)) f (led-unshown b (h .within .jobs) (h .within .within) .0))
+        subst (λ m. AboutJobs m f) (h .within .jobs) (infers-known (view (filled b lengths earliest latest marks after before)) f (led-unshown b (h .within .jobs) (h .within .within) .0))
 
-    pub led-placed : Known jobLimit f
-    led-placed = known-more (omega (arith, h .within .jobs, h .within .within .limits .jobs)) f led-known
+    pub led-placed : AboutJobs jobLimit f
+    led-placed = about-more (omega (arith, h .within .jobs, h .within .within .limits .jobs)) f led-known
 
   pub led-applicable : (f : Facts.Fact) → o ≡ some (factOf f) → Applicable f
   led-applicable f e =

@@ -5,7 +5,7 @@ use paper_board::Board;
 use paper_board::facts::Fact;
 use paper_board::facts::Side;
 ghost use Prim.Native.Nat.{_<_};
-ghost use Rattle.paper_board.specs.Paper.Facts.{Known};
+ghost use Rattle.paper_board.specs.Paper.Facts.{AboutJobs};
 ghost use Rattle.paper_board.specs.Paper.Limits.{jobLimit};
 ghost use Rattle.paper_board.specs.Paper.Values.{factOf};
 
@@ -77,7 +77,7 @@ pub fn concerned<'a>(
     after: &'a [u64; Board::JOBS],
     before: &'a [u64; Board::JOBS],
 ) -> Agenda
-    requires { ⌜ Known jobLimit (factOf fact) ⌝ }
+    requires { ⌜ AboutJobs jobLimit (factOf fact) ⌝ }
 {
     match fact {
         Fact::Arc { from, to } => joined(from, to, marks),

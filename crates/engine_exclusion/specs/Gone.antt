@@ -41,7 +41,7 @@ pub record AllGone (b : Board) (set : ℕ) : Type 0 where
 pub none-gone : (b : Board) → AllGone b 0
 none-gone b = record { gone = λ x e. absurd (refuted (bit-zero x) e) }
 
--- gone from a board that was reached
+-- gone from a board that was derived
 pub gone-before : (b c : Board) → Derived b c → (set : ℕ) → AllGone c set → AllGone b set
 gone-before b c derived set h =
     record {

@@ -1,4 +1,4 @@
--- What the values of the code's types stand for.
+-- What a finding of the code stands for.
 use mathlib.Core.Option.{Option, none, some}
 use Rattle.paper_board.specs.Paper.Facts.{Fact}
 use Rattle.paper_board.specs.Paper.Values.{factOf}

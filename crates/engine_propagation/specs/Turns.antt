@@ -1,4 +1,4 @@
--- A turn of propagation: arcs, or a window on one side, from the board that the turn before has reached.
+-- A turn of propagation: arcs, or a window on one side, from the board that the turn before has left.
 use mathlib.Core.Path.{_≡_, refl, sym, _∙_}
 use mathlib.Core.Bool.{true}
 use mathlib.Core.List.{List}
@@ -29,7 +29,7 @@ pub record Marked (live valids : ℕ) (earliest latest lengths : List ℤ) (b : 
 abbrev tabled : Board → List ℤ → List ℤ → List ℕ → List ℕ → Board
 tabled b earliest latest before after = filled b (b .lengths) earliest latest (b .marks) after before
 
--- After some turns from the board b: the words are those of live and of valid jobs of b, and the arrays were reached from it.
+-- After some turns from the board b: the words are those of live and of valid jobs of b, and the arrays were derived from it.
 pub record Turns (b : Board) (live valids : ℕ) (earliest latest : List ℤ) (before after : List ℕ) : Type 0 where
   pub lives : (x : ℕ) → bit live x ≡ true → Live (view b) x
   pub sound : (x : ℕ) → bit valids x ≡ true → Valid (view b) x

@@ -15,7 +15,7 @@ ghost use Prim.Native.Nat.{_<_};
 ghost use Rattle.ground_arithmetic.specs.Time.{Moderate};
 ghost use Rattle.paper_board.specs.declared.Board as boards;
 ghost use Rattle.paper_board.specs.Paper.Limits.{jobLimit, Within};
-ghost use Rattle.paper_board.specs.Paper.Facts.{is-bound, is-valid, Known};
+ghost use Rattle.paper_board.specs.Paper.Facts.{is-bound, is-valid, AboutJobs};
 ghost use Rattle.paper_board.specs.Paper.Values.{sideOf, turned, factOf};
 ghost use Rattle.paper_rules.specs.Update.Updates as updates;
 ghost use Rattle.paper_rules.specs.Update.ArraysWithin.{filled, possibly, ArraysWithin, Alters};
@@ -66,7 +66,7 @@ pub fn update(
     before: &mut [u64; Board::JOBS],
     fact: Fact,
 ) -> bool
-    requires { ⌜ ArraysWithin jobs (now lengths) (now earliest) (now latest) (now marks) (now after) (now before) × Known jobs (factOf fact) × Applicable fact ⌝ }
+    requires { ⌜ ArraysWithin jobs (now lengths) (now earliest) (now latest) (now marks) (now after) (now before) × AboutJobs jobs (factOf fact) × Applicable fact ⌝ }
     ensures { λ r. ⌜ Alters jobs (λ c. updates.update c (factOf fact)) (now (lengths .entry)) (now (earliest .entry)) (now (latest .entry)) (now (marks .entry)) (now (after .entry)) (now (before .entry)) r (now (lengths .exit)) (now (earliest .exit)) (now (latest .exit)) (now (marks .exit)) (now (after .exit)) (now (before .exit)) ⌝ }
 {
     match fact {
@@ -101,7 +101,7 @@ pub fn is_shown<'a>(
     after: &'a [u64; Board::JOBS],
     fact: Fact,
 ) -> bool
-    requires { ⌜ Known jobLimit (factOf fact) ⌝ }
+    requires { ⌜ AboutJobs jobLimit (factOf fact) ⌝ }
     ensures { λ r. ⌜ ((b : boards.Board) → let c = filled b (b .lengths) (now (earliest .entry)) (now (latest .entry)) (now (marks .entry)) (now (after .entry)) (b .before) in Within c → r ≡ true → updates.update c (factOf fact) ≡ some c) ⌝ }
 {
     match fact {

@@ -14,7 +14,7 @@ use Rattle.paper_board.specs.Paper.Limits.{Within}
 use Rattle.paper_rules.specs.Order.OrderLaws.{holds-up}
 use Rattle.paper_rules.specs.Inference.Forced.{forced, valid-live}
 use Rattle.paper_rules.specs.Update.Extension.{above-self, Extends}
-use Rattle.paper_rules.specs.Update.ExtendsThen.{extends-then, one-outcome}
+use Rattle.paper_rules.specs.Update.ExtendsThen.{extends-then, one-extension}
 use Rattle.paper_rules.specs.Update.Updates.{update, _andThen_}
 use Rattle.paper_rules.specs.Update.Updated.{updated}
 use Rattle.paper_rules.specs.Update.Derives.{infers-known}
@@ -24,7 +24,7 @@ use Rattle.paper_closure.specs.FindComplete.{find-complete}
 use Rattle.paper_closure.specs.Measure.{measure, measure-falls, measure-bound}
 use Rattle.paper_closure.specs.Closure.{close, closure}
 
--- the outcome of closing b: the least board above b that obeys the rules; or none, where no view above b does
+-- what closing b gives: the least board above b that obeys the rules; or none, where no view above b does
 abbrev pub ClosedTo : Board → Option Board → Type 0
 ClosedTo b = Extends (b .jobs) Obeys b
 
@@ -59,4 +59,4 @@ closure-closes b h = closes _ b h (omega (arith, measure-bound b h))
 
 -- Which inference comes first doesn't matter: any least board above b that obeys the rules is the computed one.
 pub closure-is : (b : Board) → Within b → (o : Option Board) → ClosedTo b o → closure b ≡ o
-closure-is b h o x = one-outcome (b .jobs) Obeys b (λ w ob. ob) (closure b) o (closure-closes b h) x
+closure-is b h o x = one-extension (b .jobs) Obeys b (λ w ob. ob) (closure b) o (closure-closes b h) x

@@ -32,7 +32,7 @@ use Rattle.paper_entries.specs.Paper.Looking as Looking
 use Rattle.paper_entries.specs.Paper.Sequence.{Call, outcome, after, kept, accepted, impossibles, Each, finalBoard, acceptedBy}
 use Rattle.paper_entries.specs.SameSwapped.{same-swapped, same-repeated}
 use Rattle.paper_plans.specs.Paper.PlanReply.{plan-found, plan-none, plan-spent, planReplyOf}
-use Rattle.paper_plans.specs.Paper.WithinBudget.{IsBudget, triesTaken, withinBudget}
+use Rattle.paper_plans.specs.Paper.ReplyWithin.{IsBudget, triesTaken, replyWithin}
 use Rattle.paper_plans.specs.Paper.Planner.{validJobs, plan}
 use Rattle.paper_plans.specs.Paper.Tries.{tries}
 use Rattle.paper_requests.specs.Paper.Requests as Requests
@@ -56,13 +56,13 @@ module _ (demand : Demand1) where
   pub zero-to-all : (b : Board) (q q′ : Request) → refusal b q ≡ some 0 → refusal b q′ ≡ some 0
   zero-to-all b q q′ e = demand .board b q′ .1 (demand .board b q .0 e)
 
-  -- a check that is met gives the same number on any two boards in order with as many jobs
+  -- a check that refuses gives the same number on any two boards in order with as many jobs
   pub number-of-jobs : (b c : Board) (q : Request) → InOrder b → InOrder c → b .jobs ≡ c .jobs → (r : Refusal)
       → firstRefusal (checksOf (b .jobs) q) ≡ some r → refusal b q ≡ refusal c q
   number-of-jobs b c q o o′ n r g =
       demand .table b q o r g ∙ sym (demand .table c q o′ r (subst (λ k. firstRefusal (checksOf k q) ≡ some r) n g))
 
-  -- on a board in order a refusal other than 8 comes from a check that is met
+  -- on a board in order a refusal other than 8 comes from a check that refuses
   pub by-a-check : (b : Board) (q : Request) → InOrder b → (r : ℕ) → refusal b q ≡ some r → r ≢ 8 → firstRefusal (checksOf (b .jobs) q) ≢ none
   by-a-check b q o r e n g = ⊎-elim (λ h. clash (cc)) (λ h. n (cc)) (demand .passed b q o g)
 
@@ -124,7 +124,7 @@ module _ (es : Entries) (b : Board) (demand : Demand2 es b) where
   none-wrongly-refused e g c k q = demand .impossible e g .0 q c k
 
   -- any budget within its limits
-  pub plan-exactly : (z : ℤ) → IsBudget z → planReplyOf (plan b z) ≡ withinBudget (view b) (number z) (tries (view b) (validJobs (view b)))
+  pub plan-exactly : (z : ℤ) → IsBudget z → planReplyOf (plan b z) ≡ replyWithin (view b) (number z) (tries (view b) (validJobs (view b)))
   plan-exactly = demand .plans
 
   -- the row of any job: what the call gives, and the sets before and after it

@@ -32,7 +32,7 @@ use Rattle.paper_entries.specs.Paper.Outcome.{Outcome}
 use Rattle.paper_entries.specs.Paper.Looking as Looking
 use Rattle.paper_entries.specs.Paper.Sequence.{kept, Each, finalBoard, acceptedBy}
 use Rattle.paper_plans.specs.Paper.PlanReply.{plan-found, plan-none, plan-spent, planReplyOf}
-use Rattle.paper_plans.specs.Paper.WithinBudget.{IsBudget, taken, triesTaken, withinBudget}
+use Rattle.paper_plans.specs.Paper.ReplyWithin.{IsBudget, taken, triesTaken, replyWithin}
 use Rattle.paper_plans.specs.Paper.Planner as Planner
 use Rattle.paper_plans.specs.Paper.Tries as Tries
 use Rattle.paper_plans.specs.Paper.Tries.{planOf}
@@ -158,7 +158,7 @@ module _ (demands : Demands) where
 
   -- two tries are not enough, and three are
   plan-three : planReplyOf (Planner.plan dayBoard (pos 3)) ≡ plan-found 3 (planOf (view dayBoard) (2 ∷ 1 ∷ 0 ∷ []))
-  plan-three = after-day .plans (pos 3) (budget 3 (omega arith)) ∙ ap (withinBudget (view dayBoard) 3) (day-facts .found)
+  plan-three = after-day .plans (pos 3) (budget 3 (omega arith)) ∙ ap (replyWithin (view dayBoard) 3) (day-facts .found)
 
   -- of jobs that lie apart: a gap of 0, a gap above 0, and none for an invalid job
   abbrev apartBoard : Board
@@ -286,7 +286,7 @@ module _ (demands : Demands) where
   crowd-unscheduled =
       the-crowd .none enough .0
       (demands .secondAfter emptyBooks within-emptyBooks crowded .plans (pos 15) (budget 15 (omega arith))
-      ∙ ap (withinBudget (view (finalBoard emptyBooks crowded)) 15) (computed .none)
+      ∙ ap (replyWithin (view (finalBoard emptyBooks crowded)) 15) (computed .none)
       ∙ ap (λ o. plan-none (taken o)) (sym (computed .none)))
 
   pub crowd-none : planReplyOf (Planner.plan (finalBoard emptyBooks crowded) (pos 15)) ≡ plan-none 15

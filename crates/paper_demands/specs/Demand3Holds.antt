@@ -36,7 +36,7 @@ use Rattle.paper_entries.specs.EnterOutcome.{step, enter-outcome, reached-least
 use Rattle.paper_entries.specs.Tallied.{tallied}
 use Rattle.paper_plans.specs.PlanEnding.{within-spent, within-found, within-none, plan-ending, found-schedule, none-scheduled}
 use Rattle.paper_plans.specs.Paper.PlanReply.{plan-none, planReplyOf}
-use Rattle.paper_plans.specs.Paper.WithinBudget.{IsBudget, taken, triesTaken, withinBudget}
+use Rattle.paper_plans.specs.Paper.ReplyWithin.{IsBudget, taken, triesTaken, replyWithin}
 use Rattle.paper_plans.specs.Paper.Planner.{validJobs, plan}
 use Rattle.paper_plans.specs.Paper.Tries.{Ending, found, none, tries}
 use Rattle.paper_demands.specs.Demands.{InOrder, PlanFound, PlanEnds, Demand3}
@@ -62,23 +62,23 @@ contradicted b l e h q =
 
 -- the planner on the least closed board over some entries, by how its tries end
 module _ (es : Entries) (b : Board) (ok : Admissible es) (least : Least es b) (p : passes b ≡ true) (z : ℤ) (h : IsBudget z) where
-  says : planReplyOf (plan b z) ≡ withinBudget (view b) (number z) (tries (view b) (validJobs (view b)))
+  says : planReplyOf (plan b z) ≡ replyWithin (view b) (number z) (tries (view b) (validJobs (view b)))
   says = plan-ending b p z h
 
   none-exactly : (o : Ending) → tries (view b) (validJobs (view b)) ≡ o → taken o ≤ number z
-      → (withinBudget (view b) (number z) o ≡ plan-none (taken o)) ↔ ((s : Placing) → Schedule es s → ⊥)
+      → (replyWithin (view b) (number z) o ≡ plan-none (taken o)) ↔ ((s : Placing) → Schedule es s → ⊥)
   none-exactly (found t ps) e l =
       (λ q. clash (cc (within-found (view b) (number z) t ps l)), λ n. absurd (n _ (found-schedule es b least t ps e)))
   none-exactly (none t) e l = (λ q. none-scheduled es b least ok t e, λ n. within-none (view b) (number z) t l)
 
   finds : (o : Ending) → tries (view b) (validJobs (view b)) ≡ o → taken o ≤ number z
-      → (withinBudget (view b) (number z) o ≡ plan-none (taken o) → ⊥) → PlanFound es b z
+      → (replyWithin (view b) (number z) o ≡ plan-none (taken o) → ⊥) → PlanFound es b z
   finds (found t ps) e l some =
       let same : t ≡ triesTaken (view b) = ap taken (sym e) in
       record {
         jobs = ps;
         tried = e ∙ ap (λ n. found n ps) same;
-        given = says ∙ ap (withinBudget (view b) (number z)) e ∙ within-found (view b) (number z) t ps l ∙ rw same;
+        given = says ∙ ap (replyWithin (view b) (number z)) e ∙ within-found (view b) (number z) t ps l ∙ rw same;
         schedule = found-schedule es b least t ps e;
       }
   finds (none t) e l some = absurd (some (within-none (view b) (number z) t l))

@@ -23,7 +23,7 @@ use Rattle.paper_entries.specs.Paper.Outcome.{Outcome}
 use Rattle.paper_entries.specs.Paper.Looking as Looking
 use Rattle.paper_entries.specs.Paper.Sequence.{Call, outcome, finalBoard, acceptedBy, impossibles, Each}
 use Rattle.paper_plans.specs.Paper.PlanReply.{plan-found, plan-none, plan-spent, planReplyOf}
-use Rattle.paper_plans.specs.Paper.WithinBudget.{IsBudget, triesTaken, withinBudget}
+use Rattle.paper_plans.specs.Paper.ReplyWithin.{IsBudget, triesTaken, replyWithin}
 use Rattle.paper_plans.specs.Paper.Tries as Tries
 use Rattle.paper_plans.specs.Paper.Tries.{planOf, tries}
 use Rattle.paper_plans.specs.Paper.Planner as Planner
@@ -46,7 +46,7 @@ pub record Demand1 : Type 0 where
   -- "checked by the call itself": 0 exactly where "the board handed in breaks a limit above, keeps something twice that doesn't
   -- agree, or isn't closed over what it shows"
   pub board : (b : Board) (q : Request) → (refusal b q ≡ some 0) ↔ (InOrder b → ⊥)
-  -- otherwise the first check that the call meets; and where it meets none, a result or 8
+  -- otherwise the refusal of the first check that refuses it; and where none does, a result or 8
   pub table : (b : Board) (q : Request) → InOrder b → (r : Refusal) → firstRefusal (checksOf (b .jobs) q) ≡ some r
       → refusal b q ≡ some (numberOf r)
   pub passed : (b : Board) (q : Request) → InOrder b → firstRefusal (checksOf (b .jobs) q) ≡ none → (refusal b q ≡ none) ⊎ (refusal b q ≡ some 8)
@@ -69,7 +69,7 @@ pub record Demand2 (es : Entries) (b : Board) : Type 0 where
   pub pairs : (x y : ℕ) → x < b .jobs → y < b .jobs → x ≢ y → PairShows (view b) x y (pairReplyOf (Looking.pair b (pos x) (pos y)))
   -- "the planner's plan, count and ending are those of the paper's tries"
   pub plans : (z : ℤ) → IsBudget z
-      → planReplyOf (Planner.plan b z) ≡ withinBudget (view b) (number z) (tries (view b) (validJobs (view b)))
+      → planReplyOf (Planner.plan b z) ≡ replyWithin (view b) (number z) (tries (view b) (validJobs (view b)))
 
 -- "the plan of those tries, which is one of their schedules"
 pub record PlanFound (es : Entries) (b : Board) (z : ℤ) : Type 0 where

@@ -18,24 +18,24 @@ use Rattle.paper_rules.specs.Paper.Rules.{E, D}
 use Rattle.paper_board.specs.BoardTests.Live.{live-yes, live-show}
 use Rattle.paper_closure.specs.Passes.{passes}
 use Rattle.paper_closure.specs.PassesClosed.{passes-within}
-use Rattle.paper_entries.specs.CheckLines.{no-line, unmet}
+use Rattle.paper_entries.specs.CheckLines.{no-line, passes-on}
 use Rattle.paper_entries.specs.Paper.Replies.{rowReplyOf, pairReplyOf}
 use Rattle.paper_entries.specs.Paper.Checks.{isJob, jobCheck, pairChecks, firstRefusal}
 use Rattle.paper_entries.specs.Paper.Looking.{row, pairShown, pair}
 use Rattle.paper_demands.specs.Paper.Views.{RowShows, Arcs, no-arc, forth, back, both, Gap, PairShows}
 
--- ---- the checks that a job's number meets
+-- ---- the checks that a job's number passes
 
 job-known : (n j : ℕ) → j < n → isJob n (pos j) ≡ true
 job-known n j l = and-both (leZ (pos 0) (pos j)) (ltZ (pos j) (pos n)) (omega whole) (omega whole)
 
 job-passes : (n j : ℕ) → j < n → none ≡ firstRefusal (jobCheck n (pos j) ∷ [])
-job-passes n j l = no-line ∙ unmet (jobCheck n (pos j)) [] (rw (job-known n j l))
+job-passes n j l = no-line ∙ passes-on (jobCheck n (pos j)) [] (rw (job-known n j l))
 
 pair-passes : (n x y : ℕ) → x < n → y < n → x ≢ y → none ≡ firstRefusal (pairChecks n (pos x) (pos y))
 pair-passes n x y l m ne =
-    no-line ∙ unmet _ [] (is-false (eqZ (pos x) (pos y)) λ e. ne (omega (arith, eqZ-true (pos x) (pos y) e)))
-    ∙ unmet _ _ (rw (job-known n x l, job-known n y m))
+    no-line ∙ passes-on _ [] (is-false (eqZ (pos x) (pos y)) λ e. ne (omega (arith, eqZ-true (pos x) (pos y) e)))
+    ∙ passes-on _ _ (rw (job-known n x l, job-known n y m))
 
 -- ---- row and pair
 

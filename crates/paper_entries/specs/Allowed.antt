@@ -13,7 +13,7 @@ use Rattle.ground_arithmetic.specs.Bools.{and-parts, and-both}
 use Rattle.ground_arithmetic.specs.Linear.{whole, none-below}
 use Rattle.paper_board.specs.declared.Refusal.the-variants as Refused
 use Rattle.paper_board.specs.Paper.View.{Side}
-use Rattle.paper_board.specs.Paper.Facts.{Fact, is-bound, is-valid, is-invalid, Known}
+use Rattle.paper_board.specs.Paper.Facts.{Fact, is-bound, is-valid, is-invalid, AboutJobs}
 use Rattle.paper_board.specs.Paper.Limits.{Fits, jobLimit}
 use Rattle.paper_entries.specs.Paper.Entry.{Statement, arc, mark, cut, Entry, addition, other, number, addedRow, stated}
 use Rattle.paper_entries.specs.Paper.Checks.{Check, line, isJob, statementChecks, checks, firstRefusal}
@@ -21,27 +21,27 @@ use Rattle.paper_entries.specs.CheckLines.{passed}
 use Rattle.paper_entries.specs.CallNumbers.{pair-numbers, mark-numbers, cut-numbers, addition-numbers}
 
 -- facts about jobs of a board of n jobs, one and all
-abbrev pub KnownAll : ℕ → List Fact → Type 0
-KnownAll n fs = (f : Fact) → List·Memᴰ f fs → Known n f
+abbrev pub AllAboutJobs : ℕ → List Fact → Type 0
+AllAboutJobs n fs = (f : Fact) → List·Memᴰ f fs → AboutJobs n f
 
 -- the entry is one that a board of n jobs can take
 abbrev pub Allowed : ℕ → Entry → Type 0
 Allowed n (addition l e d m) = (n < jobLimit) × Fits (addedRow l e d m) × (number m ≤ 1)
-Allowed n (other s) = KnownAll n (stated s)
+Allowed n (other s) = AllAboutJobs n (stated s)
 
-known : (n : ℕ) (s : Statement) → firstRefusal (statementChecks n s) ≡ none → KnownAll n (stated s)
+known : (n : ℕ) (s : Statement) → firstRefusal (statementChecks n s) ≡ none → AllAboutJobs n (stated s)
 known n (arc a b) g f i =
     let h = pair-numbers n a b g in
-    subst⁻¹ (Known n) (List·Memᴰ·eq-of-singleton i) (h .first .high, h .second .high, h .different)
-known n (mark j m) g f i = subst⁻¹ (Known n) (List·Memᴰ·eq-of-singleton i) (either (eqb (number m) 1))
+    subst⁻¹ (AboutJobs n) (List·Memᴰ·eq-of-singleton i) (h .first .high, h .second .high, h .different)
+known n (mark j m) g f i = subst⁻¹ (AboutJobs n) (List·Memᴰ·eq-of-singleton i) (either (eqb (number m) 1))
   where
-    either : (t : Bool) → Known n (cond t (is-valid (number j)) (is-invalid (number j)))
+    either : (t : Bool) → AboutJobs n (cond t (is-valid (number j)) (is-invalid (number j)))
     either true = mark-numbers n j m g .job .high
     either false = mark-numbers n j m g .job .high
 known n (cut j e d) g f i = ⊎-elim bound (λ i′. bound (List·Memᴰ·eq-of-singleton i′)) (List·Memᴰ·cases-cons i)
   where
-    bound : {s : Side} {z : ℤ} → f ≡ is-bound s (number j) z → Known n f
-    bound is = subst⁻¹ (Known n) is (cut-numbers n j e d g .job .high)
+    bound : {s : Side} {z : ℤ} → f ≡ is-bound s (number j) z → AboutJobs n f
+    bound is = subst⁻¹ (AboutJobs n) is (cut-numbers n j e d g .job .high)
 
 pub checks-allow : (n : ℕ) (e : Entry) → firstRefusal (checks n e) ≡ none → Allowed n e
 checks-allow n (addition l e d m) g =

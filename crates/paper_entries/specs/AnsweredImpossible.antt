@@ -26,9 +26,9 @@ lines f (c ∷ cs) = f (c .refusal) && lines f cs
 pub refusal-line : (f : Refusal → Bool) (cs : List Check) (r : Refusal) → lines f cs ≡ true → firstRefusal cs ≡ some r → f r ≡ true
 unfolding lines firstRefusal
 refusal-line f [] r l g = clash (cc)
-refusal-line f (c ∷ cs) r l g = go (c .met) refl (and-parts (f (c .refusal)) (lines f cs) l) (λ h. refusal-line f cs r h)
+refusal-line f (c ∷ cs) r l g = go (c .refuses) refl (and-parts (f (c .refusal)) (lines f cs) l) (λ h. refusal-line f cs r h)
   where
-    go : (t : Bool) → c .met ≡ t → (f (c .refusal) ≡ true) × (lines f cs ≡ true) → (lines f cs ≡ true → firstRefusal cs ≡ some r → f r ≡ true)
+    go : (t : Bool) → c .refuses ≡ t → (f (c .refusal) ≡ true) × (lines f cs ≡ true) → (lines f cs ≡ true → firstRefusal cs ≡ some r → f r ≡ true)
         → f r ≡ true
     go true m h rest =
         let found : _≡_ {A = Option Refusal} (some (c .refusal)) (some r) = rw (m, firstRefusal) at g in
@@ -60,7 +60,7 @@ pub not-refused : (n : ℕ) (e : Entry) (r : ℕ) → replyOf (acceptance n e) �
 not-refused n (addition l e d m) r q = clash (cc)
 not-refused n (other s) r q = clash (cc)
 
--- a call that was answered 8 met none of the checks 1 to 7, and the closure with its entry is a contradiction
+-- a call that was answered 8 passed the checks 1 to 7, and the closure with its entry is a contradiction
 pub answered-impossible : (b : Board) (e : Entry) (C : Type 0) (B : Board → Type 0) (x : Entered) → Ends b e C B x
     → replyOf (x .answer) ≡ no-number 8 → (firstRefusal (checks (b .jobs) e) ≡ none) × C
 answered-impossible b e C B _ (by-table r g) q =

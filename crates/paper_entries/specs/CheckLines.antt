@@ -10,21 +10,21 @@ pub no-line : none ≡ firstRefusal []
 unfolding firstRefusal
 no-line = refl
 
-pub met : (c : Check) (cs : List Check) → c .met ≡ true → some (c .refusal) ≡ firstRefusal (c ∷ cs)
+pub refuses-first : (c : Check) (cs : List Check) → c .refuses ≡ true → some (c .refusal) ≡ firstRefusal (c ∷ cs)
 unfolding firstRefusal
-met c cs e = rw (e, firstRefusal)
+refuses-first c cs e = rw (e, firstRefusal)
 
-pub unmet : (c : Check) (cs : List Check) → c .met ≡ false → firstRefusal cs ≡ firstRefusal (c ∷ cs)
+pub passes-on : (c : Check) (cs : List Check) → c .refuses ≡ false → firstRefusal cs ≡ firstRefusal (c ∷ cs)
 unfolding firstRefusal
-unmet c cs e = rw (e, firstRefusal)
+passes-on c cs e = rw (e, firstRefusal)
 
 some-none : {A : Type 0} {a : A} → _≡_ {A = Option A} (some a) none → ⊥
 some-none {a} e = clash (cc)
 
--- a check that is not met, and those after it
-pub passed : (c : Check) (cs : List Check) → firstRefusal (c ∷ cs) ≡ none → (c .met ≡ false) × (firstRefusal cs ≡ none)
-passed c cs e = go (c .met) refl
+-- a check that doesn't refuse, and those after it
+pub passed : (c : Check) (cs : List Check) → firstRefusal (c ∷ cs) ≡ none → (c .refuses ≡ false) × (firstRefusal cs ≡ none)
+passed c cs e = go (c .refuses) refl
   where
-    go : (t : Bool) → c .met ≡ t → (c .met ≡ false) × (firstRefusal cs ≡ none)
-    go true m = absurd (some-none (met c cs m ∙ e))
-    go false m = (m, unmet c cs m ∙ e)
+    go : (t : Bool) → c .refuses ≡ t → (c .refuses ≡ false) × (firstRefusal cs ≡ none)
+    go true m = absurd (some-none (refuses-first c cs m ∙ e))
+    go false m = (m, passes-on c cs m ∙ e)

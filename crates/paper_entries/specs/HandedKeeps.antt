@@ -6,7 +6,7 @@ use Prim.Native.Nat.{ℕ}
 use Rattle.paper_board.specs.declared.Board.{Board}
 use Rattle.paper_board.specs.Paper.Refusals.{numberOf}
 use Rattle.paper_board.specs.Paper.View.{view}
-use Rattle.paper_board.specs.Paper.Facts.{Fact, Known}
+use Rattle.paper_board.specs.Paper.Facts.{Fact, AboutJobs}
 use Rattle.paper_board.specs.Paper.Limits.{Within}
 use Rattle.paper_rules.specs.Paper.Entries.{Admissible, Drawn, drawn, shown}
 use Rattle.paper_rules.specs.Paper.Schedules.{Placing, Schedule, Keeps}
@@ -28,7 +28,7 @@ use Rattle.paper_entries.specs.EnterOutcome.{enter-checked}
 pub admissible-shown : (b : Board) → Within b → Admissible (shown (view b))
 admissible-shown b h = record { jobs = h .limits .jobs; rows = λ k. h .limits .rows k .live; about = about }
   where
-    about : (f : Fact) → Drawn (view b) f → Known (b .jobs) f
+    about : (f : Fact) → Drawn (view b) f → AboutJobs (b .jobs) f
     about _ (drawn i k a) = let (li, lk, ne) = h .limits .arcs i k a in (li .0, lk .0, ne)
 
 module _ (b : Board) (e : Entry) (p : passes b ≡ true) where

@@ -1,6 +1,6 @@
 -- Entries, the checks of the table, and `enter`: what each entry call answers and the board after it.
 pub mod Paper
--- that `enter` is exact, call by call and over a sequence
+-- that `enter` gives its `Outcome`, call by call and over a sequence
 pub mod ShowsEntry
 pub mod EntriesAgree
 pub mod CheckLines

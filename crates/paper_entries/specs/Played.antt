@@ -29,7 +29,7 @@ accepted-kept n (addition l e d m) = refl
 accepted-kept n (other s) = refl
 
 module _ (l : List Entry) (b : Board) (h : Held l b) where
-  -- an entry that meets none of the checks may follow the others
+  -- an entry that passes the checks may follow the others
   pub admissible-snoc : (e : Entry) → firstRefusal (checks (b .jobs) e) ≡ none → Admissible (entries (l ++ e ∷ []))
   admissible-snoc e g =
       admissible-agree (withEntry (entries l) e) (entries (l ++ e ∷ [])) (agree-sym _ _ (agree-snoc l e))

@@ -4,7 +4,7 @@ use mathlib.Core.Logic.{⊎-elim}
 use mathlib.Core.List.{List, [], _∷_, List·Memᴰ·head, List·Memᴰ·tail, List·Memᴰ·not-nil, List·Memᴰ·cases-cons}
 use Rattle.paper_board.specs.declared.Board.{Board}
 use Rattle.paper_board.specs.Paper.View.{View, view}
-use Rattle.paper_board.specs.Paper.Facts.{Fact, Holds, Known}
+use Rattle.paper_board.specs.Paper.Facts.{Fact, Holds, AboutJobs}
 use Rattle.paper_rules.specs.Paper.Entries.{shown}
 use Rattle.paper_board.specs.Paper.Limits.{Within}
 use Rattle.paper_rules.specs.Order.OrderLaws.{holds-up}
@@ -15,7 +15,7 @@ use Rattle.paper_rules.specs.Update.Updated.{updated}
 use Rattle.paper_rules.specs.Update.Appended.{appended}
 use Rattle.paper_entries.specs.Paper.Entry.{Entry, addition, other, addedRow, stated, withEntry}
 use Rattle.paper_entries.specs.ShowsEntry.{HoldAll, ShowsEntry}
-use Rattle.paper_entries.specs.Allowed.{KnownAll, Allowed}
+use Rattle.paper_entries.specs.Allowed.{AllAboutJobs, Allowed}
 use Rattle.paper_entries.specs.Paper.Enter.{updateAll, raw}
 
 -- the first of some facts, and the others
@@ -26,7 +26,7 @@ uncons : (f : Fact) (fs : List Fact) (v : View) → HoldAll (f ∷ fs) v → Hol
 uncons f fs v hs = (hs f (List·Memᴰ·head refl), λ g m. hs g (List·Memᴰ·tail m))
 
 -- all the facts are shown, or no view above b that obeys the rules shows them
-pub updated-all : (b : Board) → Within b → (fs : List Fact) → KnownAll (b .jobs) fs → Extends (b .jobs) (HoldAll fs) b (updateAll b fs)
+pub updated-all : (b : Board) → Within b → (fs : List Fact) → AllAboutJobs (b .jobs) fs → Extends (b .jobs) (HoldAll fs) b (updateAll b fs)
 unfolding updateAll
 updated-all b h [] known =
     record { more = above-self b h; meets = λ f m. absurd (List·Memᴰ·not-nil m); least = λ w up ob hs. up }
@@ -38,7 +38,7 @@ updated-all b h (f ∷ fs) known =
     (update b f)
     (λ c. updateAll c fs)
     (updated b h f (known f (List·Memᴰ·head refl)))
-    λ c x. updated-all c (x .more .within) fs λ g m. subst⁻¹ (λ n. Known n g) (x .more .jobs) (known g (List·Memᴰ·tail m))
+    λ c x. updated-all c (x .more .within) fs λ g m. subst⁻¹ (λ n. AboutJobs n g) (x .more .jobs) (known g (List·Memᴰ·tail m))
 
 pub raw-shown : (b : Board) → Within b → (e : Entry) → Allowed (b .jobs) e
     → Extends (withEntry (shown (view b)) e .jobs) (ShowsEntry (b .jobs) e) b (raw b e)

@@ -10,9 +10,9 @@ use native.Mathlib.Decide.{ℕ-discrete}
 use borrow.Author.Tests.{eq-eqb, ne-eqb}
 use Rattle.paper_board.specs.declared.Board.{Board}
 use Rattle.paper_board.specs.Paper.View.{Row, View, view}
-use Rattle.paper_board.specs.Paper.Facts.{Fact, Known}
+use Rattle.paper_board.specs.Paper.Facts.{Fact, AboutJobs}
 use Rattle.paper_rules.specs.Inference.Infers.{Obeys}
-use Rattle.paper_rules.specs.Inference.KnownMore.{known-more}
+use Rattle.paper_rules.specs.Inference.AboutMore.{about-more}
 use Rattle.paper_rules.specs.Paper.Entries.{Entries, Admissible, Shows, shown}
 use Rattle.paper_board.specs.Paper.Limits.{jobLimit, Fits, Within, BooksWithin}
 use Rattle.paper_rules.specs.Order.Leastness.{Below, Impossible}
@@ -21,7 +21,7 @@ use Rattle.paper_rules.specs.Update.StoreWithin.{within-books, within-tally}
 use Rattle.paper_entries.specs.Paper.Entry.{Entry, addition, other, addedRow, stated, addRow, stating, withEntry}
 use Rattle.paper_entries.specs.ShowsEntry.{ShowsEntry, with-split, with-join, with-jobs}
 use Rattle.paper_entries.specs.EntriesAgree.{EntriesAgree, agree-sym, agreed}
-use Rattle.paper_entries.specs.Allowed.{KnownAll, Allowed}
+use Rattle.paper_entries.specs.Allowed.{AllAboutJobs, Allowed}
 use Rattle.paper_entries.specs.Paper.Enter.{counted}
 use Rattle.paper_entries.specs.ClosesWith.{ClosedWith, ClosedToWith}
 
@@ -34,13 +34,13 @@ pub record Reached (es : Entries) (b : Board) : Type 0 where
 
 admissible-row : (es : Entries) (r : Row) → Admissible es → es .jobs < jobLimit → Fits r → Admissible (addRow es r)
 admissible-row es r h free fits =
-    record { jobs = free; rows = λ k l. row k l (ℕ-discrete k (es .jobs)); about = λ f i. known-more (omega arith) f (h .about f i) }
+    record { jobs = free; rows = λ k l. row k l (ℕ-discrete k (es .jobs)); about = λ f i. about-more (omega arith) f (h .about f i) }
   where
     row : (k : ℕ) → k < suc (es .jobs) → Dec (k ≡ es .jobs) → addRow es r .row k .mark ≢ 2 → Fits (addRow es r .row k)
     row k l (yes e) = rw (eq-eqb k (es .jobs) e) λ n. fits
     row k l (no n) = rw (ne-eqb k (es .jobs) n) (h .rows k (omega (arith, n)))
 
-admissible-stated : (es : Entries) (fs : List Fact) → Admissible es → KnownAll (es .jobs) fs → Admissible (stating es fs)
+admissible-stated : (es : Entries) (fs : List Fact) → Admissible es → AllAboutJobs (es .jobs) fs → Admissible (stating es fs)
 admissible-stated es fs h k = record { jobs = h .jobs; rows = h .rows; about = λ f. ⊎-elim (h .about f) (k f) }
 
 pub admissible-with : (es : Entries) (e : Entry) → Admissible es → Allowed (es .jobs) e → Admissible (withEntry es e)
@@ -54,7 +54,7 @@ admissible-agree es es′ a h =
       rows = λ k l.
           let l′ : k < es .jobs = omega (arith, a .jobs) in
           subst (λ r. r .mark ≢ 2 → Fits r) (a .rows k l′) (h .rows k l′);
-      about = λ f i. subst (λ n. Known n f) (a .jobs) (h .about f (a .from f i));
+      about = λ f i. subst (λ n. AboutJobs n f) (a .jobs) (h .about f (a .from f i));
     }
 
 -- entries that agree reach the same boards

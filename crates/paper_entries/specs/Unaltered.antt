@@ -25,7 +25,7 @@ use Rattle.paper_entries.specs.Paper.Enter.{enter}
 use Rattle.paper_entries.specs.Paper.Outcome.{Outcome, by-table, impossible, accepted}
 use Rattle.paper_entries.specs.Paper.Sequence.{Call, after}
 use Rattle.paper_entries.specs.ShowsEntry.{HoldAll, with-split, with-join}
-use Rattle.paper_entries.specs.Allowed.{KnownAll, checks-allow, checks-more}
+use Rattle.paper_entries.specs.Allowed.{AllAboutJobs, checks-allow, checks-more}
 use Rattle.paper_entries.specs.Later.{call-later, calls-later}
 use Rattle.paper_entries.specs.EnterOutcome.{Step, step, reached-shown, enter-checked, enter-refused}
 
@@ -101,7 +101,7 @@ pub data NamesInvalid (v : View) : Statement → Type 0 where
   cut-of : (j e d : ℤ) → Invalid v (number j) → NamesInvalid v (cut j e d)
 
 -- what is stated of an invalid job counts as shown
-counts : (v : View) (s : Statement) → NamesInvalid v s → KnownAll (v .jobs) (stated s) → HoldAll (stated s) v
+counts : (v : View) (s : Statement) → NamesInvalid v s → AllAboutJobs (v .jobs) (stated s) → HoldAll (stated s) v
 counts v _ (arc-from a b h) known f i =
     let (la, lb, _) = known (is-arc (number a) (number b)) (List·Memᴰ·head refl) in
     subst⁻¹ (Holds v) (List·Memᴰ·eq-of-singleton i) (la, lb, λ x y. absurd (x .1 (h .1)))

@@ -3,4 +3,4 @@ pub mod Lists
 pub mod Tries
 pub mod Planner
 pub mod PlanReply
-pub mod WithinBudget
+pub mod ReplyWithin

@@ -1,5 +1,5 @@
--- The theorems on the planner: its answer is how its tries end (`plan-ending`); over the least closed board of entries, these find
--- one of their schedules (`found-schedule`), or there is none (`none-scheduled`).
+-- The theorems on the planner: its answer is how its tries end, or spent where they take more than the budget (`plan-ending`); over the
+-- least closed board of entries, these find one of their schedules (`found-schedule`), or there is none (`none-scheduled`).
 use mathlib.Core.Path.{_≡_, refl, sym, ap, _∙_}
 use mathlib.Core.Logic.{_↔_}
 use mathlib.Core.Bool.{Bool, true, false, cond}
@@ -29,7 +29,7 @@ use Rattle.paper_plans.specs.Paper.Lists.{among}
 use Rattle.paper_plans.specs.Paper.Tries.{Ending, found, none, planOf, tries}
 use Rattle.paper_plans.specs.Paper.Planner.{validJobs, unplanned, withPlan, plannedWithin, plan}
 use Rattle.paper_plans.specs.Paper.PlanReply.{PlanReply, plan-found, plan-none, plan-spent, planReplyOf}
-use Rattle.paper_plans.specs.Paper.WithinBudget.{IsBudget, taken, withinBudget}
+use Rattle.paper_plans.specs.Paper.ReplyWithin.{IsBudget, taken, replyWithin}
 use Rattle.paper_plans.specs.TriesSound.{tries-sound}
 use Rattle.paper_plans.specs.TriesComplete.{tries-complete}
 use Rattle.paper_plans.specs.PlanLaws.{valid-distinct, valid-among, plan-placing, plan-tries}
@@ -46,14 +46,14 @@ module _ (v : View) (budget : ℕ) where
       go true e q = absurd (n q)
       go false e q = leb-false t budget e
 
-  pub within-spent : (o : Ending) → (withinBudget v budget o ≡ plan-spent budget) ↔ (budget < taken o)
+  pub within-spent : (o : Ending) → (replyWithin v budget o ≡ plan-spent budget) ↔ (budget < taken o)
   within-spent (found t ps) = spent-beyond t (plan-found t (planOf v ps)) λ q. clash (cc)
   within-spent (none t) = spent-beyond t (plan-none t) λ q. clash (cc)
 
-  pub within-found : (t : ℕ) (ps : List ℕ) → t ≤ budget → withinBudget v budget (found t ps) ≡ plan-found t (planOf v ps)
+  pub within-found : (t : ℕ) (ps : List ℕ) → t ≤ budget → replyWithin v budget (found t ps) ≡ plan-found t (planOf v ps)
   within-found t ps l = rw (le-leb t budget l)
 
-  pub within-none : (t : ℕ) → t ≤ budget → withinBudget v budget (none t) ≡ plan-none t
+  pub within-none : (t : ℕ) → t ≤ budget → replyWithin v budget (none t) ≡ plan-none t
   within-none t l = rw (le-leb t budget l)
 
 -- ---- the tries on a board
@@ -67,7 +67,7 @@ module _ (v : View) (limits : Limited v) (T : ℕ) (ps : List ℕ) (e : tries v 
 
 -- the plan handed back, a word and a list of starts, is the list of placed jobs
 planned-within : (v : View) → Limited v → (budget : ℕ) (o : Ending) → tries v (validJobs v) ≡ o
-    → planReplyOf (plannedWithin v budget o) ≡ withinBudget v budget o
+    → planReplyOf (plannedWithin v budget o) ≡ replyWithin v budget o
 planned-within v limits budget (found t ps) e = go (leb t budget)
   where
     go : (b : Bool) → planReplyOf (cond b (withPlan v (Answers.Found t) ps) (unplanned (Answers.Spent budget))) ≡ cond b (plan-found t (planOf v ps)) (plan-spent budget)
@@ -80,7 +80,7 @@ planned-within v limits budget (none t) e = go (leb t budget)
     go false = refl
 
 pub plan-ending : (b : Board) → passes b ≡ true → (z : ℤ) → IsBudget z
-    → planReplyOf (plan b z) ≡ withinBudget (view b) (number z) (tries (view b) (validJobs (view b)))
+    → planReplyOf (plan b z) ≡ replyWithin (view b) (number z) (tries (view b) (validJobs (view b)))
 plan-ending b p z h =
     ap planReplyOf (plan-tries b z p (decides-between (pos 0) budgetLimit z .show h))
     ∙ planned-within (view b) (passes-within b p .limits) (number z) (tries (view b) (validJobs (view b))) refl

@@ -24,7 +24,7 @@ use Rattle.paper_board.specs.declared.Board.{Board}
 use Rattle.paper_closure.specs.Passes.{passes}
 use Rattle.paper_entries.specs.Paper.Entry.{number}
 use Rattle.paper_entries.specs.Paper.Checks.{budgetLimit, budgetCheck, firstRefusal}
-use Rattle.paper_entries.specs.CheckLines.{no-line, unmet, passed}
+use Rattle.paper_entries.specs.CheckLines.{no-line, passes-on, passed}
 use Rattle.paper_plans.specs.declared.PlanAnswer.{PlanAnswer}
 use Rattle.paper_plans.specs.declared.PlanAnswer.the-variants as Answers
 use Rattle.paper_plans.specs.Paper.Lists.{range, among}
@@ -32,7 +32,7 @@ use Rattle.paper_plans.specs.Paper.Tries as Tries
 use Rattle.paper_plans.specs.Paper.Tries.{Ending, found, add, startAfter, startIn, planOf, tries}
 use Rattle.paper_plans.specs.Paper.Planner.{validJobs, placedWord, startList, unplanned, withPlan, plannedWithin, plan}
 use Rattle.paper_plans.specs.Paper.PlanReply.{placingOf}
-use Rattle.paper_plans.specs.Paper.WithinBudget.{IsBudget}
+use Rattle.paper_plans.specs.Paper.ReplyWithin.{IsBudget}
 use Rattle.paper_plans.specs.ListLaws.{Distinct, among-first, among-later, keep-among, below-among, keep-distinct, range-distinct}
 use Rattle.paper_plans.specs.SearchReaches.{start-first, start-rest}
 
@@ -105,4 +105,4 @@ budget-within z e = decides-between (pos 0) budgetLimit z .yes (not-false (betwe
 pub plan-tries : (b : Board) (z : ℤ) → passes b ≡ true → between (pos 0) budgetLimit z ≡ true
     → plan b z ≡ plannedWithin (view b) (number z) (tries (view b) (validJobs (view b)))
 unfolding plan
-plan-tries b z handed-in e = rw (plan, handed-in, ← unmet (budgetCheck z) [] (rw e), ← no-line)
+plan-tries b z handed-in e = rw (plan, handed-in, ← passes-on (budgetCheck z) [] (rw e), ← no-line)

@@ -1,4 +1,4 @@
--- What any call is refused with: 0 on a board that fails check 0; otherwise the first check that it meets, and where it meets none, 8 or
+-- What any call is refused with: 0 on a board that fails check 0; otherwise by the first check that refuses it, and where none does, 8 or
 -- nothing.
 use mathlib.Core.Path.{_≡_, refl, ap}
 use mathlib.Core.Logic.{_⊎_, inl, inr}

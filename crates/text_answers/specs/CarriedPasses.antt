@@ -32,7 +32,7 @@ use Rattle.paper_entries.specs.Later.{call-later}
 use Rattle.paper_entries.specs.EnterOutcome.{enter-checked}
 use Rattle.paper_plans.specs.Paper.PlanReply.{plan-found, plan-none, plan-spent, no-plan, planReplyOf}
 use Rattle.paper_plans.specs.Paper.Tries.{Ending, found, none as exhausted, tries}
-use Rattle.paper_plans.specs.Paper.WithinBudget.{taken}
+use Rattle.paper_plans.specs.Paper.ReplyWithin.{taken}
 use Rattle.paper_plans.specs.Paper.Planner as planner
 use Rattle.paper_plans.specs.Paper.Planner.{plan}
 use Rattle.text_forms.specs.declared.Form.{Form}

@@ -39,7 +39,7 @@ enter-spec =
     (λ c. search needs)
     (λ c κs. search needs)
     (λ c. search needs)
-    (λ c κs. record { jobs = c .before .before .before .args .board .jobs; unmet = sym (let-pass c) })
+    (λ c κs. record { jobs = c .before .before .before .args .board .jobs; passed = sym (let-pass c) })
     (λ c κs. search needs)
     decide-requires
     returns

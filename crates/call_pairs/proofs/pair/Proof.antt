@@ -18,7 +18,7 @@ said : (c : tie.After-pair-checks)
     refusalOf (c .pair-checks .result) ≡ firstRefusal (pairChecks (a .board .jobs) (a .a) (a .b))
 said c = simp (toZ-ofZ, c .before .fits .a, c .before .fits .b) at (c .pair-checks .ensures)
 
--- past it no check is met
+-- past it no check refuses
 let-pass : (c : tie.After-enum-told)
     → let a = c .before .before .before .args in
     none ≡ firstRefusal (pairChecks (a .board .jobs) (a .a) (a .b))

@@ -16,7 +16,7 @@ use Rattle.call_planner.proofs.plan.Tie as tie
 said : (c : tie.After-budget-check) → refusalOf (c .budget-check .result) ≡ firstRefusal (budgetCheck (c .before .args .budget) ∷ [])
 said c = simp (toZ-ofZ, c .before .fits .budget) at (c .budget-check .ensures)
 
--- past it no check is met
+-- past it no check refuses
 let-pass : (c : tie.After-enum-told) → none ≡ firstRefusal (budgetCheck (c .before .before .before .args .budget) ∷ [])
 let-pass c = rw (c .enum-told .given .1) at (said (c .before .before))
 

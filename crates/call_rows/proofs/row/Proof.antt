@@ -19,7 +19,7 @@ said : (c : tie.After-job-check)
     refusalOf (c .job-check .result) ≡ firstRefusal (jobCheck (a .board .jobs) (a .job) ∷ [])
 said c = simp (toZ-ofZ, c .before .fits .job) at (c .job-check .ensures)
 
--- past it no check is met
+-- past it no check refuses
 let-pass : (c : tie.After-enum-told)
     → let a = c .before .before .before .args in
     none ≡ firstRefusal (jobCheck (a .board .jobs) (a .job) ∷ [])

@@ -14,7 +14,7 @@ mark-value-requires : tie.Need-mark-value-requires
 mark-value-requires c κs =
     let (given, is) = c .before .entry .given in
     let passed = rw is at (c .before .before .before .pre) in
-    let h = addition-numbers (passed .jobs) (given .0) (given .1 .0) (given .1 .1 .0) (given .1 .1 .1 .0) (passed .unmet) in
+    let h = addition-numbers (passed .jobs) (given .0) (given .1 .0) (given .1 .1 .0) (given .1 .1 .1 .0) (passed .passed) in
     let m : SFits w32 (given .1 .1 .1 .0) = search needs in
     simp (toZ-ofZ, m) (h .low, omega (whole, h .high))
 
@@ -34,14 +34,14 @@ index-requires c κs =
     let (given, is) = c .before .entry2 .given in
     let passed = rw is at (c .before .before .before .pre) in
     let a : SFits w32 (given .0) = search needs in
-    simp (toZ-ofZ, a) (pair-numbers (passed .jobs) (given .0) (given .1 .0) (passed .unmet) .first .low)
+    simp (toZ-ofZ, a) (pair-numbers (passed .jobs) (given .0) (given .1 .0) (passed .passed) .first .low)
 
 index-requires-2 : tie.Need-index-requires-2
 index-requires-2 c κs =
     let (given, is) = c .before .before .entry2 .given in
     let passed = rw is at (c .before .before .before .before .pre) in
     let b : SFits w32 (given .1 .0) = search needs in
-    simp (toZ-ofZ, b) (pair-numbers (passed .jobs) (given .0) (given .1 .0) (passed .unmet) .second .low)
+    simp (toZ-ofZ, b) (pair-numbers (passed .jobs) (given .0) (given .1 .0) (passed .passed) .second .low)
 
 returns-2 : tie.Need-returns-2
 returns-2 c =
@@ -56,13 +56,13 @@ index-requires-3 c κs =
     let (given, is) = c .before .entry3 .given in
     let passed = rw is at (c .before .before .before .pre) in
     let j : SFits w32 (given .0) = search needs in
-    simp (toZ-ofZ, j) (mark-numbers (passed .jobs) (given .0) (given .1 .0) (passed .unmet) .job .low)
+    simp (toZ-ofZ, j) (mark-numbers (passed .jobs) (given .0) (given .1 .0) (passed .passed) .job .low)
 
 mark-value-requires-2 : tie.Need-mark-value-requires-2
 mark-value-requires-2 c κs =
     let (given, is) = c .before .before .entry3 .given in
     let passed = rw is at (c .before .before .before .before .pre) in
-    let h = mark-numbers (passed .jobs) (given .0) (given .1 .0) (passed .unmet) in
+    let h = mark-numbers (passed .jobs) (given .0) (given .1 .0) (passed .passed) in
     let m : SFits w32 (given .1 .0) = search needs in
     simp (toZ-ofZ, m) (omega (whole, h .low), h .high)
 
@@ -81,7 +81,7 @@ index-requires-4 c κs =
     let (given, is) = c .before .entry4 .given in
     let passed = rw is at (c .before .before .before .pre) in
     let j : SFits w32 (given .0) = search needs in
-    simp (toZ-ofZ, j) (cut-numbers (passed .jobs) (given .0) (given .1 .0) (given .1 .1 .0) (passed .unmet) .job .low)
+    simp (toZ-ofZ, j) (cut-numbers (passed .jobs) (given .0) (given .1 .0) (given .1 .1 .0) (passed .passed) .job .low)
 
 returns-4 : tie.Need-returns-4
 returns-4 c =

@@ -20,8 +20,8 @@ Holds v (is-valid j) = Valid v j
 Holds v (is-invalid j) = Invalid v j
 
 -- the fact is about jobs of a board of n jobs, and an arc about different ones
-abbrev pub Known : ℕ → Fact → Type 0
-Known n (is-arc i k) = (i < n) × (k < n) × (i ≢ k)
-Known n (is-bound s j z) = j < n
-Known n (is-valid j) = j < n
-Known n (is-invalid j) = j < n
+abbrev pub AboutJobs : ℕ → Fact → Type 0
+AboutJobs n (is-arc i k) = (i < n) × (k < n) × (i ≢ k)
+AboutJobs n (is-bound s j z) = j < n
+AboutJobs n (is-valid j) = j < n
+AboutJobs n (is-invalid j) = j < n

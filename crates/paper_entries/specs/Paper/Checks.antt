@@ -17,13 +17,13 @@ use Rattle.paper_entries.specs.Paper.Entry.{Statement, arc, mark, cut, E
 abbrev pub isJob : ℕ → ℤ → Bool
 isJob n z = leZ (pos 0) z && ltZ z (pos n)
 
--- one line of the table: the refusal, and whether the call meets it
+-- one line of the table: the refusal, and whether it refuses the call
 pub record Check : Type 0 where
   pub refusal : Refusal
-  pub met : Bool
+  pub refuses : Bool
 
 abbrev pub line : Refusal → Bool → Check
-line r t = record { refusal = r; met = t }
+line r t = record { refusal = r; refuses = t }
 
 -- 2 job, "a number that no job has"
 abbrev pub jobCheck : ℕ → ℤ → Check
@@ -67,4 +67,4 @@ budgetCheck z = line Refused.Budget (not (between (pos 0) budgetLimit z))
 -- the first refusal that the call meets
 unfoldable pub firstRefusal : List Check → Option Refusal
 firstRefusal [] = none
-firstRefusal (c ∷ cs) = elim (c .met) [ true ↦ some (c .refusal) | false ↦ firstRefusal cs ]
+firstRefusal (c ∷ cs) = elim (c .refuses) [ true ↦ some (c .refusal) | false ↦ firstRefusal cs ]

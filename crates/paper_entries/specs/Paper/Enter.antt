@@ -50,7 +50,7 @@ abbrev pub concluded : Board → Answer → Option Board → Entered
 concluded b a none = refused Refused.Impossible (counted b)
 concluded b a (some c) = record { answer = a; board = c }
 
--- the first check of the table that is met, or the closure
+-- the first check of the table that refuses, or the closure
 abbrev pub judged : Board → Entry → Option Refusal → Entered
 judged b e (some r) = refused r b
 judged b e none = concluded b (acceptance (b .jobs) e) (closureWith b e)

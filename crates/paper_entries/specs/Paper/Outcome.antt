@@ -15,7 +15,7 @@ use Rattle.paper_entries.specs.Paper.Enter.{acceptance, counted, refused
 -- The three ways in which a call on a board that passes check 0 can end, where `Contradicts` says when the closure with the
 -- entry is a contradiction, and `Becomes` which board it is otherwise. They exclude each other.
 pub data Ends (b : Board) (e : Entry) (Contradicts : Type 0) (Becomes : Board → Type 0) : Entered → Type 0 where
-  -- the first of the checks 1 to 7 that the entry meets; "alters nothing"
+  -- the first of the checks 1 to 7 that refuses the entry; "alters nothing"
   by-table : (r : Refusal) → firstRefusal (checks (b .jobs) e) ≡ some r → Ends b e Contradicts Becomes (refused r b)
   -- "the closure with this entry is a contradiction"; "number 8 adds one to the tally"
   impossible : firstRefusal (checks (b .jobs) e) ≡ none → Contradicts → Ends b e Contradicts Becomes (refused Refused.Impossible (counted b))

@@ -16,7 +16,7 @@ use Rattle.paper_entries.specs.Paper.Replies.{Reply, ok-number, ok, no-n
 pub data Manner : Type 0 where
   byValue inPlace : Manner
 
--- The manner comes in where a call is met by code: `outcome` doesn't read it, and the calls by value (crate `call_dock`) and those in place
+-- The manner comes in where code answers a call: `outcome` doesn't read it, and the calls by value (crate `call_dock`) and those in place
 -- (crate `call_in_place`) are each proved to give that outcome.
 pub record Call : Type 0 where
   pub manner : Manner

@@ -4,7 +4,7 @@ use mathlib.Core.Logic.{_≢_}
 use Prim.Native.Nat.{ℕ, _<_, _≤_}
 use lib.Signed.{_≤ℤ_}
 use Rattle.paper_board.specs.Paper.View.{Row, View, Arc}
-use Rattle.paper_board.specs.Paper.Facts.{Fact, is-arc, Holds, Known}
+use Rattle.paper_board.specs.Paper.Facts.{Fact, is-arc, Holds, AboutJobs}
 use Rattle.paper_board.specs.Paper.Limits.{jobLimit, Fits}
 
 -- The jobs added, in order, each with its length, window and mark, and a set of facts stated of them.
@@ -18,7 +18,7 @@ pub record Entries : Type 1 where
 pub record Admissible (es : Entries) : Type 0 where
   pub jobs : es .jobs ≤ jobLimit
   pub rows : (k : ℕ) → k < es .jobs → es .row k .mark ≢ 2 → Fits (es .row k)
-  pub about : (f : Fact) → es .facts f → Known (es .jobs) f
+  pub about : (f : Fact) → es .facts f → AboutJobs (es .jobs) f
 
 -- The board's row s shows the entered row r: "with their lengths, with every mark of 1 or 2 [..] and with windows inside
 -- all those entered"; of an invalid job the length and the window count as shown.

@@ -7,7 +7,7 @@ use borrow.Author.Tests.{lt-ltb}
 use Rattle.ground_arithmetic.specs.Bools.{is-false, refuted}
 use Rattle.ground_arithmetic.specs.Linear.{whole}
 use Rattle.paper_board.specs.Paper.View.{View, early, late}
-use Rattle.paper_board.specs.Paper.Facts.{Fact, is-arc, is-bound, is-valid, is-invalid, Holds, Known}
+use Rattle.paper_board.specs.Paper.Facts.{Fact, is-arc, is-bound, is-valid, is-invalid, Holds, AboutJobs}
 use Rattle.paper_rules.specs.Order.OrderLaws.{shown-invalid}
 use Rattle.paper_rules.specs.Inference.Forced.{valid-live}
 use Rattle.paper_rules.specs.Paper.Entries.{Entries, Admissible, Shown, Shows, Drawn, drawn, shown, _⊑_}
@@ -39,7 +39,7 @@ scheduled-shows es p ok h =
     row k l false e =
         shown-invalid (es .row k) (absentRow es k) (λ m. refuted e (h .valid k l m)) (rw (lt-ltb k (es .jobs) l))
 
-    fact : (f : Fact) → Known (es .jobs) f → Respects es p f → Holds (scheduled es p) f
+    fact : (f : Fact) → AboutJobs (es .jobs) f → Respects es p f → Holds (scheduled es p) f
     fact (is-arc i k) (li, lk, ne) r = (li, lk, λ a b. arc-show es p i k a b (r (live-placed es p i a) (live-placed es p k b)))
     fact (is-bound early j z) l r = (l, λ a. let placed = live-placed es p j a in rw placed (r placed))
     fact (is-bound late j z) l r = (l, λ a. let placed = live-placed es p j a in rw placed (r placed))

@@ -3,7 +3,7 @@ use mathlib.Core.Path.{sym, _∙_, subst}
 use mathlib.Core.Option.{Option, some}
 use Rattle.paper_board.specs.declared.Board.{Board}
 use Rattle.paper_board.specs.Paper.View.{View, view}
-use Rattle.paper_board.specs.Paper.Facts.{Fact, Holds, Known}
+use Rattle.paper_board.specs.Paper.Facts.{Fact, Holds, AboutJobs}
 use Rattle.paper_board.specs.Paper.Limits.{Within}
 use Rattle.paper_rules.specs.Inference.Infers.{Infers, r1, r2, r3, r45, r6}
 use Rattle.paper_rules.specs.Inference.Forced.{forced}
@@ -13,7 +13,7 @@ use Rattle.paper_rules.specs.Update.Updates.{update, _andThen_}
 use Rattle.paper_rules.specs.Update.Updated.{updated}
 
 -- what is inferred is about jobs of the board
-pub infers-known : (v : View) (f : Fact) → Infers v f → Known (v .jobs) f
+pub infers-known : (v : View) (f : Fact) → Infers v f → AboutJobs (v .jobs) f
 infers-known v _ (r1 a b c la vb lc ne ab bc) = (la .0, lc .0, ne)
 infers-known v _ (r2 a b va lb ab ba) = lb .0
 infers-known v _ (r3 a b la lb ne h) = (lb .0, la .0, λ e. ne (sym e))
@@ -52,4 +52,4 @@ derives-further b c derived f infers =
     derived
     λ d x.
     let jobs = derived .more .jobs ∙ sym (x .more .jobs) in
-    updated d (x .more .within) f (subst (λ n. Known n f) jobs (infers-known (view c) f infers))
+    updated d (x .more .within) f (subst (λ n. AboutJobs n f) jobs (infers-known (view c) f infers))

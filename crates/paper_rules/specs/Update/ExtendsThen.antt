@@ -1,4 +1,4 @@
--- Steps up from a board compose, and there is one outcome: whichever way it was found, the least board is the same.
+-- Steps up from a board compose, and there is one extension: whichever way it was found, the least board is the same.
 use mathlib.Core.Path.{_≡_, refl, sym, _∙_, ap}
 use mathlib.Core.Option.{Option, none, some}
 use Prim.Native.Nat.{ℕ}
@@ -11,7 +11,7 @@ use Rattle.paper_rules.specs.Order.LeastUnique.{alike-boards, equal-boar
 use Rattle.paper_rules.specs.Update.Updates.{_andThen_}
 use Rattle.paper_rules.specs.Update.Extension.{Extension, Extends}
 
--- an outcome for P is one for Q, where P gives Q, and Q gives P in the views above b that obey the rules
+-- an extension for P is one for Q, where P gives Q, and Q gives P in the views above b that obey the rules
 pub extends-same : (n : ℕ) (P Q : View → Type 0) (b : Board) → ((w : View) → P w → Q w)
     → ((w : View) → view b ⊑ w → Obeys w → Q w → P w) → (o : Option Board) → Extends n P b o → Extends n Q b o
 extends-same n P Q b to from none x = λ w up obeys q. x w up obeys (from w up obeys q)
@@ -45,7 +45,7 @@ module _ (n : ℕ) (P Q R : View → Type 0) (b : Board)
   extends-then none k x y = λ w up obeys r. x w up obeys (split w up obeys r .0)
   extends-then (some c) k x y = onward c (k c) x (y c x)
 
--- where P asks that the rules are obeyed, there is one outcome
+-- where P asks that the rules are obeyed, there is one extension
 module _ (n : ℕ) (P : View → Type 0) (b : Board) (obeys : (w : View) → P w → Obeys w) where
   same-extension : (c d : Board) → Extension n P b c → Extension n P b d → c ≡ d
   same-extension c d x y =
@@ -55,8 +55,8 @@ module _ (n : ℕ) (P : View → Type 0) (b : Board) (obeys : (w : View) → P w
       let alike = alike-boards c d (x .more .within) (y .more .within) (below c d x y) (below d c y x) in
       equal-boards c d (x .more .within) (y .more .within) (record { alike = alike; books = x .more .books ∙ sym (y .more .books) })
 
-  pub one-outcome : (o p : Option Board) → Extends n P b o → Extends n P b p → o ≡ p
-  one-outcome none none x y = refl
-  one-outcome none (some d) x y = absurd (x (view d) (y .more .above) (obeys (view d) (y .meets)) (y .meets))
-  one-outcome (some c) none x y = absurd (y (view c) (x .more .above) (obeys (view c) (x .meets)) (x .meets))
-  one-outcome (some c) (some d) x y = ap some (same-extension c d x y)
+  pub one-extension : (o p : Option Board) → Extends n P b o → Extends n P b p → o ≡ p
+  one-extension none none x y = refl
+  one-extension none (some d) x y = absurd (x (view d) (y .more .above) (obeys (view d) (y .meets)) (y .meets))
+  one-extension (some c) none x y = absurd (y (view c) (x .more .above) (obeys (view c) (x .meets)) (x .meets))
+  one-extension (some c) (some d) x y = ap some (same-extension c d x y)

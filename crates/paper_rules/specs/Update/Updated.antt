@@ -14,7 +14,7 @@ use Rattle.ground_arithmetic.specs.Bools.{by-test, refuted, and-parts, and-both
 use Rattle.ground_arithmetic.specs.Linear.{whole}
 use Rattle.paper_board.specs.declared.Board.{Board}
 use Rattle.paper_board.specs.Paper.View.{Row, View, Live, Invalid, Side, bound, rowOf, view}
-use Rattle.paper_board.specs.Paper.Facts.{Fact, is-arc, is-bound, is-valid, is-invalid, Holds, Known}
+use Rattle.paper_board.specs.Paper.Facts.{Fact, is-arc, is-bound, is-valid, is-invalid, Holds, AboutJobs}
 use Rattle.paper_rules.specs.Inference.Infers.{Obeys, r6}
 use Rattle.paper_board.specs.Paper.Limits.{Fits, Within}
 use Rattle.paper_rules.specs.Paper.Entries.{Shown, _⊑_}
@@ -113,7 +113,7 @@ module _ (b : Board) (within : Within b) where
           (forced e)
           (exclude b j) (excluded j (lj .0))
 
-  pub updated : (f : Fact) → Known (b .jobs) f → Updated b f (update b f)
+  pub updated : (f : Fact) → AboutJobs (b .jobs) f → Updated b f (update b f)
   unfolding update
   updated (is-arc i k) (job-i, job-k, ne) =
       by-test (Extended b (is-arc i k)) (live (view b) i && live (view b) k) (link b i k) b both one

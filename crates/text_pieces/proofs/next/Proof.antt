@@ -9,7 +9,7 @@ use Rattle.text_decimals.specs.Rest.{rest-length}
 use Rattle.text_replies.specs.Room.{answerRoom}
 use Rattle.text_numerals.specs.Prefix.{prefix-within}
 use Rattle.text_forms.specs.LineLaws.{inLine, lineLength}
-use Rattle.text_pieces.specs.Going.{Going, going-start, going-line, full, done, last}
+use Rattle.text_pieces.specs.PieceState.{PieceState, piece-start, piece-line, full, done, last}
 use Rattle.text_forms.specs.Paper.Lines.{linesOf}
 use Rattle.text_answers.specs.Paper.Text.{serve}
 use Rattle.text_pieces.proofs.next.Statement.{statement}
@@ -17,7 +17,7 @@ use Rattle.text_pieces.proofs.next.Tie as tie
 
 abbrev Inv-loop : tie.InvT-loop
 Inv-loop text out₀ board₀ rest₀ at₀ out board rest at =
-    (length out ≡ length out₀) × Going (serve board₀ (linesOf text)) text out board rest at
+    (length out ≡ length out₀) × PieceState (serve board₀ (linesOf text)) text out board rest at
 
 abbrev μ-loop : tie.MeasureT-loop
 μ-loop text out₀ board₀ rest₀ at₀ out board rest at = length rest
@@ -42,7 +42,7 @@ ended c =
     (is, omega (arith, is, c .if2 .left, prefix-within inLine (head (c .before) .loop .rest .now)))
 
 loop-holds : tie.Need-loop-holds Inv-loop μ-loop
-loop-holds c = (refl, going-start _ _ _ (c .before .before .pre .0))
+loop-holds c = (refl, piece-start _ _ _ (c .before .before .pre .0))
 
 sub-if1 : tie.Need-sub-if1 Inv-loop μ-loop
 sub-if1 c = c .before .loop .inv .1 .written
@@ -108,7 +108,7 @@ loop-again c =
     let (is, more) = ended read in (
       a .carry-out .kept .1 .1 .0 ∙ at .loop .inv .0,
       rw is
-          (going-line _ _ _ _ _ _ (at .loop .inv .1) _ _ _ (space (read .before .before)) (a .carry-out .kept .1 .1 .0) more (rw (a .before .before .read .ensures, sub-zero, is) at (a .carry-out .ensures))),
+          (piece-line _ _ _ _ _ _ (at .loop .inv .1) _ _ _ (space (read .before .before)) (a .carry-out .kept .1 .1 .0) more (rw (a .before .before .read .ensures, sub-zero, is) at (a .carry-out .ensures))),
     )
 
 same-length-3 : tie.Need-same-length-3 Inv-loop μ-loop

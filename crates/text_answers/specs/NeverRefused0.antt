@@ -58,5 +58,5 @@ other-lines : (rs : List LineReply) → Every NotZero rs → Every OtherLine rs
 other-lines [] h = tt
 other-lines (r ∷ rs) (one, rest) = (other-line r one, other-lines rs rest)
 
-pub never-answered : (t : List ℕ) → Every OtherLine (serveText t .replies)
-never-answered t = other-lines (serveText t .replies) (text-never-zero t)
+pub never-refused-0 : (t : List ℕ) → Every OtherLine (serveText t .replies)
+never-refused-0 t = other-lines (serveText t .replies) (text-never-zero t)

@@ -26,7 +26,7 @@ use Rattle.text_forms.specs.LineLaws.{lineLength}
 use Rattle.text_pieces.specs.Continues.{Continues, continues-start, continues-then, continues-line, continues-last, Answers}
 
 -- the bytes before `at` are written, and `left` is what remains of the text
-pub record Going (s : Served) (text out : List ℕ) (b : Board) (left : List ℕ) (at : ℕ) : Type 0 where
+pub record PieceState (s : Served) (text out : List ℕ) (b : Board) (left : List ℕ) (at : ℕ) : Type 0 where
   pub continues : Continues s (take at out) b left
   pub passes : passes b ≡ true
   pub suffix : left ≡ drop (length text - length left) text
@@ -39,8 +39,8 @@ is-empty : (l : List ℕ) → length l ≡ 0 → l ≡ []
 is-empty [] e = refl
 is-empty (x ∷ l) e = absurd (omega arith)
 
-pub going-start : (b : Board) (text out : List ℕ) → passes b ≡ true → Going (serve b (linesOf text)) text out b text 0
-going-start b text out p =
+pub piece-start : (b : Board) (text out : List ℕ) → passes b ≡ true → PieceState (serve b (linesOf text)) text out b text 0
+piece-start b text out p =
     record {
       continues = continues-start b text;
       passes = p;
@@ -50,16 +50,16 @@ going-start b text out p =
       unread = λ e. refl;
     }
 
-module _ (s : Served) (text out : List ℕ) (b : Board) (left : List ℕ) (at : ℕ) (h : Going s text out b left at) where
+module _ (s : Served) (text out : List ℕ) (b : Board) (left : List ℕ) (at : ℕ) (h : PieceState s text out b left at) where
   all-read : drop (length text) text ≡ []
   all-read = drop-of-length-le text (le-refl (length text))
 
   -- a line carried out
-  pub going-line : (out′ : List ℕ) (b′ : Board) (at′ : ℕ) → at + answerRoom ≤ length out → length out′ ≡ length out
+  pub piece-line : (out′ : List ℕ) (b′ : Board) (at′ : ℕ) → at + answerRoom ≤ length out → length out′ ≡ length out
       → lineLength left < length left
       → Gives out at out′ at′ answerRoom b′ (carriedOut b (formOf (take (lineLength left) left)))
-      → Going s text out′ b′ (rest left (lineLength left + 1)) at′
-  going-line out′ b′ at′ room same more (w, is) =
+      → PieceState s text out′ b′ (rest left (lineLength left + 1)) at′
+  piece-line out′ b′ at′ room same more (w, is) =
       let k = lineLength left + 1 in
       let shorter = rest-length left k in
       let passed : length text - length left + k ≡ length text - length (rest left k) = omega (arith, shorter, h .within) in

@@ -25,6 +25,6 @@ triesTaken v = taken (tries v (validJobs v))
 
 -- "If this takes T tries and T is at most the budget, the answer is found or none with T; otherwise it is spent with the
 -- budget."
-abbrev pub withinBudget : View → ℕ → Ending → PlanReply
-withinBudget v budget (found t ps) = cond (leb t budget) (plan-found t (planOf v ps)) (plan-spent budget)
-withinBudget v budget (none t) = cond (leb t budget) (plan-none t) (plan-spent budget)
+abbrev pub replyWithin : View → ℕ → Ending → PlanReply
+replyWithin v budget (found t ps) = cond (leb t budget) (plan-found t (planOf v ps)) (plan-spent budget)
+replyWithin v budget (none t) = cond (leb t budget) (plan-none t) (plan-spent budget)
