@@ -1,20 +1,19 @@
 // What a program compares with the header that it was built with, before its first call.
-use paper_board::Board;
 ghost use mathlib.Core.Path.{_≡_};
+ghost use Rattle.call_version.specs.Version.{versionNumber, boardBytes};
 
-// The library's version as one number: 1.2.3 would be 10203. `tests/version` holds it to the file VERSION.
+// The library's version as one number.
 #[no_mangle]
 pub extern "C" fn bayboard_version() -> u32
-    ensures { λ r. ⌜ r ≡ 10000 ⌝ }
+    ensures { λ r. ⌜ r ≡ versionNumber ⌝ }
 {
-    10000
+    call_version::version_number()
 }
 
-// The bytes of a board: the number of jobs, the tally and its padding, 8 each, and for each place a length, E, D, a mark and the two words. The
-// checker has no layouts: `hosts/` asserts them, and tests that no call writes past these bytes.
+// The bytes of a board.
 #[no_mangle]
 pub extern "C" fn bayboard_size() -> usize
-    ensures { λ r. ⌜ r ≡ 1872 ⌝ }
+    ensures { λ r. ⌜ r ≡ boardBytes ⌝ }
 {
-    8 + 8 + Board::JOBS * (4 + 4 + 4 + 1 + 8 + 8)
+    call_version::board_bytes()
 }

@@ -12,6 +12,6 @@ pub moderate-time : (s : Side) (t : ℤ) → Moderate (turned s t) → Moderate 
 moderate-time early t h = h
 moderate-time late t h = (omega (whole, minus t), omega (whole, minus t))
 
--- a bound that the code finds found-below another
+-- a bound that the code finds below another
 pub found-below : {a b : ℤ} → ltZ a b ≡ true → a <ℤ b
 found-below e = omega whole

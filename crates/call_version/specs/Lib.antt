@@ -1,0 +1,2 @@
+-- The library's version and the bytes of a board.
+pub mod Version
