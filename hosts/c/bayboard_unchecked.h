@@ -6,7 +6,7 @@
  * - what bayboard_empty gave,
  * - one that bayboard_passes said true of, or
  * - what a call, of this header or of bayboard.h, left of such a board, refused or not, if nobody else wrote it since
- * (theorems `empty-board-passes` and `left-passes` in crates/call_exports/specs/LeftPasses.antt).
+ * (theorems `empty_board_passes` and `left_passes` in crates/call_exports/specs/LeftPasses.antt).
  *
  * ON ANOTHER BOARD NOTHING IS PROMISED: the calls don't test it, and may read and write past the board.
  *

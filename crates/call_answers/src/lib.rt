@@ -1,6 +1,6 @@
 // How an entry call answers: accepted, or refused, and then the board as it was but for the tally.
 ghost use Rattle.std.specs.Prelude.{◌≡◌, ◌+◌, min};
-ghost use Rattle.paper_board.specs.Paper.Limits.{tallyLimit};
+ghost use Rattle.paper_board.specs.Paper.Limits.{tally_limit};
 ghost use Rattle.paper_entries.specs.Paper.Enter as paper;
 ghost use Rattle.paper_entries.specs.Paper.EntryOf.{entry_of};
 
@@ -19,7 +19,7 @@ pub fn refused(refusal: Refusal, board: Board) -> Entered
 
 // The tally "stops at 1000000".
 fn next_tally(tally: u32) -> u32
-    ensures { result ≡ min (tally + 1) tallyLimit }
+    ensures { result ≡ min (tally + 1) tally_limit }
 {
     if tally < Board::TALLY {
         tally + 1

@@ -6,18 +6,18 @@ use Rattle.std.specs.Int.{Width}
 use mir.Val.{Fits, bits}
 use Rattle.paper_entries.specs.Paper.Entry.{number}
 
-pub number-mag : (z : ℤ) → number z ≤ mag z
-number-mag (pos n) = omega arith
-number-mag (negsuc n) = omega arith
+pub number_mag : (z : ℤ) → number z ≤ mag z
+number_mag (pos n) = omega arith
+number_mag (negsuc n) = omega arith
 
 pub cast_fits : (w : Width) (z : ℤ) → pos 0 ≤ℤ z → number z < 2 ^ bits w → T (non_neg z) × Fits w (nat_abs z)
 cast_fits w (pos n) h l = (tt, record { fits = l })
 cast_fits w (negsuc n) h l = absurd h.le
 
-pub cast-number : (z : ℤ) → pos 0 ≤ℤ z → nat_abs z ≡ number z
-cast-number (pos n) h = refl
-cast-number (negsuc n) h = absurd h.le
+pub cast_number : (z : ℤ) → pos 0 ≤ℤ z → nat_abs z ≡ number z
+cast_number (pos n) h = refl
+cast_number (negsuc n) h = absurd h.le
 
-pub less-number : (z : ℤ) (n : ℕ) → pos 0 ≤ℤ z → lt_z z (pos n) ≡ ltb (number z) n
-less-number (pos k) n h = refl
-less-number (negsuc k) n h = absurd h.le
+pub less_number : (z : ℤ) (n : ℕ) → pos 0 ≤ℤ z → lt_z z (pos n) ≡ ltb (number z) n
+less_number (pos k) n h = refl
+less_number (negsuc k) n h = absurd h.le

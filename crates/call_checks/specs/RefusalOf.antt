@@ -4,6 +4,6 @@ use Rattle.paper_board.specs.declared.Refusal.{Refusal}
 use Rattle.call_checks.specs.declared.Checked as Results
 
 -- the refusal that a call meets, if any
-abbrev pub refusalOf : Results.Checked → Option Refusal
-refusalOf Results.TheVariants.Passed = none
-refusalOf (Results.TheVariants.Refused r) = some r
+abbrev pub refusal_of : Results.Checked → Option Refusal
+refusal_of Results.TheVariants.Passed = none
+refusal_of (Results.TheVariants.Refused r) = some r

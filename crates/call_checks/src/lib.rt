@@ -1,10 +1,10 @@
 // "Refusals by the gate": the lines of the table, the checks of a job and of a pair, and the planner's 9.
 ghost use Rattle.std.specs.Prelude.{◌≡◌, ◌&&◌, List, [], ◌∷◌, pos, ◌≤ℤ◌};
-ghost use Rattle.ground_arithmetic.specs.Linear.{eqZ};
+ghost use Rattle.ground_arithmetic.specs.Linear.{eq_z};
 ghost use Rattle.paper_entries.specs.Paper.Entry as entry;
 ghost use Rattle.paper_entries.specs.Paper.Checks as paper;
-ghost use Rattle.paper_entries.specs.Paper.Checks.{Check, isJob, jobCheck, pairChecks, budgetCheck, firstRefusal};
-ghost use Rattle.call_checks.specs.RefusalOf.{refusalOf};
+ghost use Rattle.paper_entries.specs.Paper.Checks.{Check, is_job, job_check, pair_checks, budget_check, first_refusal};
+ghost use Rattle.call_checks.specs.RefusalOf.{refusal_of};
 
 use paper_board::Refusal;
 use paper_board::range::between;
@@ -18,7 +18,7 @@ pub enum Checked {
 
 // A line of the table, and what the lines after it say.
 pub fn line(refusal: Refusal, refuses: bool, rest: Checked) -> Checked
-    ensures { (cs : List Check) → refusalOf rest ≡ firstRefusal cs → refusalOf result ≡ firstRefusal (paper.line refusal refuses ∷ cs) }
+    ensures { (cs : List Check) → refusal_of rest ≡ first_refusal cs → refusal_of result ≡ first_refusal (paper.line refusal refuses ∷ cs) }
 {
     if refuses {
         Checked::Refused(refusal)
@@ -53,33 +53,33 @@ pub fn budget_value(budget: i32) -> u32
 
 // "numbered from 0"
 pub fn is_job(jobs: usize, number: i32) -> bool
-    ensures { result ≡ isJob jobs number }
+    ensures { result ≡ is_job jobs number }
 {
     0 <= number && index(number) < jobs
 }
 
 fn are_jobs(jobs: usize, a: i32, b: i32) -> bool
-    ensures { result ≡ isJob jobs a && isJob jobs b }
+    ensures { result ≡ is_job jobs a && is_job jobs b }
 {
     is_job(jobs, a) && is_job(jobs, b)
 }
 
 fn is_same(a: i32, b: i32) -> bool
-    ensures { result ≡ eqZ a b }
+    ensures { result ≡ eq_z a b }
 {
     a <= b && b <= a
 }
 
 // 2 job
 pub fn job_check(jobs: usize, job: i32) -> Checked
-    ensures { refusalOf result ≡ firstRefusal (jobCheck jobs job ∷ []) }
+    ensures { refusal_of result ≡ first_refusal (job_check jobs job ∷ []) }
 {
     line(Refusal::Job, !is_job(jobs, job), Checked::Passed)
 }
 
 // 2 job, 3 same
 pub fn pair_checks(jobs: usize, a: i32, b: i32) -> Checked
-    ensures { refusalOf result ≡ firstRefusal (pairChecks jobs a b) }
+    ensures { refusal_of result ≡ first_refusal (pair_checks jobs a b) }
 {
     line(
         Refusal::Job,
@@ -93,7 +93,7 @@ const BUDGET: i32 = 1000000;
 
 // 9 budget
 pub fn budget_check(budget: i32) -> Checked
-    ensures { refusalOf result ≡ firstRefusal (budgetCheck budget ∷ []) }
+    ensures { refusal_of result ≡ first_refusal (budget_check budget ∷ []) }
 {
     line(
         Refusal::Budget,

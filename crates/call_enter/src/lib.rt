@@ -1,12 +1,12 @@
 // An entry call on a board that has passed check 0, in three parts: the checks of the table, the attempt, and what is concluded from it.
 // Who holds such a board pays for no second check.
 ghost use Rattle.std.specs.Prelude.{◌≡◌, true};
-ghost use Rattle.paper_rules.specs.Update.Updates.{◌andThen◌};
+ghost use Rattle.paper_rules.specs.Update.Updates.{◌and_then◌};
 ghost use Rattle.paper_closure.specs.Passes.{passes};
 ghost use Rattle.paper_closure.specs.Closure as closing;
 ghost use Rattle.paper_entries.specs.Paper.Enter as paper;
 ghost use Rattle.paper_entries.specs.Paper.EntryOf.{entry_of};
-ghost use Rattle.call_statements.specs.Stated.{rawOf, Storable};
+ghost use Rattle.call_statements.specs.Stated.{raw_of, Storable};
 
 use call_answers::{acceptance, impossible, refused};
 use call_attempts::attempt;
@@ -22,7 +22,7 @@ use paper_entries::{Answer, Entered, Entry};
 // closed.
 fn decide(board: Board, stated: Stated, accepted: Answer) -> Entered
     requires { (passes board ≡ true) × Storable board.jobs stated }
-    ensures { result ≡ paper.concluded board accepted (rawOf board stated and_then closing.closure) }
+    ensures { result ≡ paper.concluded board accepted (raw_of board stated and_then closing.closure) }
 {
     if is_shown(
         &board.earliest,

@@ -2,9 +2,9 @@
 ghost use Rattle.std.specs.Prelude.{◌≡◌, ◌&&◌, List, ◌∷◌};
 ghost use Rattle.paper_board.specs.Paper.Tests as tests;
 ghost use Rattle.paper_entries.specs.Paper.Entry as entry;
-ghost use Rattle.paper_entries.specs.Paper.Checks.{Check, timeCheck, windowCheck, checks, firstRefusal};
+ghost use Rattle.paper_entries.specs.Paper.Checks.{Check, time_check, window_check, checks, first_refusal};
 ghost use Rattle.paper_entries.specs.Paper.EntryOf.{entry_of};
-ghost use Rattle.call_checks.specs.RefusalOf.{refusalOf};
+ghost use Rattle.call_checks.specs.RefusalOf.{refusal_of};
 
 use call_checks::{Checked, is_job, line, pair_checks};
 use paper_board::range::{between, is_length, is_time};
@@ -12,14 +12,14 @@ use paper_board::{Board, Refusal};
 use paper_entries::Entry;
 
 fn are_times(earliest: i32, latest: i32) -> bool
-    ensures { result ≡ tests.isTime earliest && tests.isTime latest }
+    ensures { result ≡ tests.is_time earliest && tests.is_time latest }
 {
     is_time(earliest) && is_time(latest)
 }
 
 // 5 time, 6 window, and what the lines after them say
 fn window_lines(earliest: i32, latest: i32, rest: Checked) -> Checked
-    ensures { (cs : List Check) → refusalOf rest ≡ firstRefusal cs → refusalOf result ≡ firstRefusal (timeCheck earliest latest ∷ windowCheck earliest latest ∷ cs) }
+    ensures { (cs : List Check) → refusal_of rest ≡ first_refusal cs → refusal_of result ≡ first_refusal (time_check earliest latest ∷ window_check earliest latest ∷ cs) }
 {
     line(
         Refusal::Time,
@@ -30,7 +30,7 @@ fn window_lines(earliest: i32, latest: i32, rest: Checked) -> Checked
 
 // 2 job, 7 mark
 fn mark_checks(jobs: usize, job: i32, mark: i32) -> Checked
-    ensures { refusalOf result ≡ firstRefusal (checks jobs (entry.other (entry.mark job mark))) }
+    ensures { refusal_of result ≡ first_refusal (checks jobs (entry.other (entry.mark job mark))) }
 {
     let taken = between(Board::VALID as i32, Board::INVALID as i32, mark);
     line(
@@ -42,7 +42,7 @@ fn mark_checks(jobs: usize, job: i32, mark: i32) -> Checked
 
 // 2 job, 5 time, 6 window
 fn cut_checks(jobs: usize, job: i32, earliest: i32, latest: i32) -> Checked
-    ensures { refusalOf result ≡ firstRefusal (checks jobs (entry.other (entry.cut job earliest latest))) }
+    ensures { refusal_of result ≡ first_refusal (checks jobs (entry.other (entry.cut job earliest latest))) }
 {
     line(
         Refusal::Job,
@@ -53,7 +53,7 @@ fn cut_checks(jobs: usize, job: i32, earliest: i32, latest: i32) -> Checked
 
 // 1 full, 4 length, 5 time, 6 window, 7 mark
 fn addition_checks(jobs: usize, length: i32, earliest: i32, latest: i32, mark: i32) -> Checked
-    ensures { refusalOf result ≡ firstRefusal (checks jobs (entry.addition length earliest latest mark)) }
+    ensures { refusal_of result ≡ first_refusal (checks jobs (entry.addition length earliest latest mark)) }
 {
     let taken = between(Board::UNDECIDED as i32, Board::VALID as i32, mark);
     line(
@@ -73,7 +73,7 @@ fn addition_checks(jobs: usize, length: i32, earliest: i32, latest: i32, mark: i
 
 // The checks 1 to 7, as far as the entry's sort has them.
 pub fn entry_checks(jobs: usize, entry: Entry) -> Checked
-    ensures { refusalOf result ≡ firstRefusal (checks jobs (entry_of entry)) }
+    ensures { refusal_of result ≡ first_refusal (checks jobs (entry_of entry)) }
 {
     match entry {
         Entry::Addition {

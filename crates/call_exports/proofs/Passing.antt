@@ -25,5 +25,5 @@ module _ {m : ℕ} (cs : List (Carried m)) where
   enough false b z p e = absurd (false≢true e)
 
 -- what `enter` asks, by its flag
-abbrev pub as-flagged : Asks {m = 0} (value entry ∷ value truth ∷ [])
-as-flagged = some (λ b z. z.1.0 ≡ true → passes b ≡ true)
+abbrev pub as_flagged : Asks {m = 0} (value entry ∷ value truth ∷ [])
+as_flagged = some (λ b z. z.1.0 ≡ true → passes b ≡ true)

@@ -21,7 +21,7 @@ use Rattle.call_in_place.proofs.Carried.{Carried, value}
 use Rattle.call_in_place.proofs.Handed.{answer}
 use Rattle.call_in_place.proofs.Plain.{Plain, struct}
 use Rattle.call_reply_numbers.specs.declared.ReplyNumbers.{ReplyNumbers}
-use Rattle.call_reply_numbers.specs.ReplyNumbers.{Replied, replyNumbers}
+use Rattle.call_reply_numbers.specs.ReplyNumbers.{Replied, reply_numbers}
 use Rattle.call_reply_numbers.specs.contracts.ReplyNumbers as R
 use Rattle.call_reply_numbers.proofs.ReplyNumbers.TheLaws as R'
 
@@ -42,7 +42,7 @@ module _ {M : Type 1} {𝓤 : Ura M} (𝓛 : Logic 𝓤) where
   asks zs = emp 𝓤
 
   abbrev ensures : Values taking → ReplyNumbers → Type 0
-  ensures zs r = r ≡ replyNumbers zs.0
+  ensures zs r = r ≡ reply_numbers zs.0
 
   abbrev pub ToReply : Contract 𝓤
   ToReply = ByValue taking reply.Row 𝓤 asks ensures 𝓛
@@ -55,7 +55,7 @@ module _ {M : Type 1} {𝓤 : Ura M} (𝓛 : Logic 𝓤) where
         {q : Post 𝓤 H} {callee : Name} {xs : List Operand} {d : Place} {rest : Body}
         → K → FmC 𝓤 H 𝓛.laws C → Triple 𝓤 (C callee) ToReply → Is answer.Row a (answer.val a ∷ [])
         → Opds K 𝓛 (raw asked ∷ Γ) E xs (answer.val a ∷ [])
-        → ((v : Val) → Is reply.Row (replyNumbers a) (v ∷ []) → Seq K 𝓛 Γ (lands C Λ E d v rest q))
+        → ((v : Val) → Is reply.Row (reply_numbers a) (v ∷ []) → Seq K 𝓛 Γ (lands C Λ E d v rest q))
         → Seq K 𝓛 Γ (runs C Λ E (seq (call callee xs d) rest) q)
     replies t fm known is os k =
         freely t answer a is [] tt (id⊢ 𝓤 (emp 𝓤)) $ calls taking reply.Row 𝓤 asks ensures 𝓛 tt tt (a, tt) t fm known (id⊢ 𝓤 (emp 𝓤)) os

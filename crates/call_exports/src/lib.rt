@@ -1,15 +1,15 @@
 // The calls for a host in another language that keeps the board: they alter it where it is kept, or look at it there, and their replies are
 // structs of numbers. Any board may be handed in; check 0 is among their checks.
 ghost use Rattle.std.specs.Prelude.{◌≡◌, true};
-ghost use Rattle.paper_board.specs.Paper.Limits.{emptyBoard};
-ghost use Rattle.paper_board.specs.Paper.Parts.{emptyBooks};
+ghost use Rattle.paper_board.specs.Paper.Limits.{empty_board};
+ghost use Rattle.paper_board.specs.Paper.Parts.{empty_books};
 ghost use Rattle.paper_closure.specs.Passes as check;
 ghost use Rattle.paper_entries.specs.Paper.Entry as entry;
 ghost use Rattle.paper_entries.specs.Paper.Enter as paper;
 ghost use Rattle.paper_entries.specs.Paper.Looking as looking;
 ghost use Rattle.paper_entries.specs.Paper.EntryOf.{entry_of};
 ghost use Rattle.paper_plans.specs.Paper.Planner as planning;
-ghost use Rattle.call_reply_numbers.specs.ReplyNumbers.{replied, rowReplyNumbers, pairReplyNumbers, planReplyNumbers};
+ghost use Rattle.call_reply_numbers.specs.ReplyNumbers.{replied, row_reply_numbers, pair_reply_numbers, plan_reply_numbers};
 
 use call_dock::Dock;
 use call_reply_numbers::{
@@ -24,7 +24,7 @@ pub mod version;
 // A board without jobs whose tally starts at 0.
 #[unsafe(no_mangle)]
 pub extern "C" fn bayboard_empty() -> Board
-    ensures { result ≡ emptyBoard emptyBooks }
+    ensures { result ≡ empty_board empty_books }
 {
     Board::empty()
 }
@@ -99,7 +99,7 @@ pub extern "C" fn bayboard_cut(
 // "Row of a job: mark, E, D, the set before it and the set after it."
 #[unsafe(no_mangle)]
 pub extern "C" fn bayboard_row(board: &Board, job: i32) -> RowReplyNumbers
-    ensures { result ≡ rowReplyNumbers (looking.row board.now job) }
+    ensures { result ≡ row_reply_numbers (looking.row board.now job) }
 {
     let dock = Dock { board: *board };
     call_exports_by_value::row(dock, job)
@@ -108,7 +108,7 @@ pub extern "C" fn bayboard_row(board: &Board, job: i32) -> RowReplyNumbers
 // "Pair of A, B: 0 no arc, 1 A to B, 2 B to A, 3 both; and the gap"
 #[unsafe(no_mangle)]
 pub extern "C" fn bayboard_pair(board: &Board, a: i32, b: i32) -> PairReplyNumbers
-    ensures { result ≡ pairReplyNumbers (looking.pair board.now a b) }
+    ensures { result ≡ pair_reply_numbers (looking.pair board.now a b) }
 {
     let dock = Dock { board: *board };
     call_exports_by_value::pair(dock, a, b)
@@ -117,7 +117,7 @@ pub extern "C" fn bayboard_pair(board: &Board, a: i32, b: i32) -> PairReplyNumbe
 // "It takes the board and a budget, 0 to 1000000." and "alters nothing".
 #[unsafe(no_mangle)]
 pub extern "C" fn bayboard_plan(board: &Board, budget: i32) -> PlanReplyNumbers
-    ensures { result ≡ planReplyNumbers (planning.plan board.now budget) }
+    ensures { result ≡ plan_reply_numbers (planning.plan board.now budget) }
 {
     let dock = Dock { board: *board };
     call_exports_by_value::plan(dock, budget)

@@ -1,12 +1,12 @@
 // The same calls without check 0: they require a board that passes it and don't test it, so that a host in C has to see to that.
-// The empty board passes, and what a call leaves of a board that passes: `empty-board-passes` and `left-passes` in specs/LeftPasses.antt.
+// The empty board passes, and what a call leaves of a board that passes: `empty_board_passes` and `left_passes` in specs/LeftPasses.antt.
 ghost use Rattle.std.specs.Prelude.{◌≡◌, true};
 ghost use Rattle.paper_closure.specs.Passes.{passes};
 ghost use Rattle.paper_entries.specs.Paper.Entry as entry;
 ghost use Rattle.paper_entries.specs.Paper.Enter as paper;
 ghost use Rattle.paper_entries.specs.Paper.Looking as looking;
 ghost use Rattle.paper_plans.specs.Paper.Planner as planning;
-ghost use Rattle.call_reply_numbers.specs.ReplyNumbers.{replied, rowReplyNumbers, pairReplyNumbers, planReplyNumbers};
+ghost use Rattle.call_reply_numbers.specs.ReplyNumbers.{replied, row_reply_numbers, pair_reply_numbers, plan_reply_numbers};
 
 use crate::enter;
 use call_dock::Dock;
@@ -65,7 +65,7 @@ pub extern "C" fn bayboard_unchecked_cut(
 #[unsafe(no_mangle)]
 pub extern "C" fn bayboard_unchecked_row(board: &Board, job: i32) -> RowReplyNumbers
     requires { passes board.now ≡ true }
-    ensures { result ≡ rowReplyNumbers (looking.row board.now job) }
+    ensures { result ≡ row_reply_numbers (looking.row board.now job) }
 {
     let dock = Dock { board: *board };
     call_exports_by_value::unchecked::row(dock, job)
@@ -75,7 +75,7 @@ pub extern "C" fn bayboard_unchecked_row(board: &Board, job: i32) -> RowReplyNum
 #[unsafe(no_mangle)]
 pub extern "C" fn bayboard_unchecked_pair(board: &Board, a: i32, b: i32) -> PairReplyNumbers
     requires { passes board.now ≡ true }
-    ensures { result ≡ pairReplyNumbers (looking.pair board.now a b) }
+    ensures { result ≡ pair_reply_numbers (looking.pair board.now a b) }
 {
     let dock = Dock { board: *board };
     call_exports_by_value::unchecked::pair(dock, a, b)
@@ -85,7 +85,7 @@ pub extern "C" fn bayboard_unchecked_pair(board: &Board, a: i32, b: i32) -> Pair
 #[unsafe(no_mangle)]
 pub extern "C" fn bayboard_unchecked_plan(board: &Board, budget: i32) -> PlanReplyNumbers
     requires { passes board.now ≡ true }
-    ensures { result ≡ planReplyNumbers (planning.plan board.now budget) }
+    ensures { result ≡ plan_reply_numbers (planning.plan board.now budget) }
 {
     let dock = Dock { board: *board };
     call_exports_by_value::unchecked::plan(dock, budget)

@@ -6,7 +6,7 @@ ghost use Rattle.paper_entries.specs.Paper.Enter as paper;
 ghost use Rattle.paper_entries.specs.Paper.Looking as looking;
 ghost use Rattle.paper_entries.specs.Paper.EntryOf.{entry_of};
 ghost use Rattle.paper_plans.specs.Paper.Planner as planning;
-ghost use Rattle.call_reply_numbers.specs.ReplyNumbers.{rowReplyNumbers, pairReplyNumbers, planReplyNumbers};
+ghost use Rattle.call_reply_numbers.specs.ReplyNumbers.{row_reply_numbers, pair_reply_numbers, plan_reply_numbers};
 
 use call_dock::Dock;
 use call_reply_numbers::{
@@ -38,19 +38,19 @@ pub fn enter(board: Board, entry: Entry, passing: bool) -> Entered
 }
 
 pub fn row(dock: Dock, job: i32) -> RowReplyNumbers
-    ensures { result ≡ rowReplyNumbers (looking.row dock.board job) }
+    ensures { result ≡ row_reply_numbers (looking.row dock.board job) }
 {
     row_reply_numbers(dock.row(job))
 }
 
 pub fn pair(dock: Dock, a: i32, b: i32) -> PairReplyNumbers
-    ensures { result ≡ pairReplyNumbers (looking.pair dock.board a b) }
+    ensures { result ≡ pair_reply_numbers (looking.pair dock.board a b) }
 {
     pair_reply_numbers(dock.pair(a, b))
 }
 
 pub fn plan(dock: Dock, budget: i32) -> PlanReplyNumbers
-    ensures { result ≡ planReplyNumbers (planning.plan dock.board budget) }
+    ensures { result ≡ plan_reply_numbers (planning.plan dock.board budget) }
 {
     plan_reply_numbers(dock.plan(budget))
 }

@@ -3,7 +3,7 @@ ghost use Rattle.std.specs.Prelude.{◌≡◌, true};
 ghost use Rattle.paper_closure.specs.Passes.{passes};
 ghost use Rattle.paper_entries.specs.Paper.Looking as looking;
 ghost use Rattle.paper_plans.specs.Paper.Planner as planning;
-ghost use Rattle.call_reply_numbers.specs.ReplyNumbers.{rowReplyNumbers, pairReplyNumbers, planReplyNumbers};
+ghost use Rattle.call_reply_numbers.specs.ReplyNumbers.{row_reply_numbers, pair_reply_numbers, plan_reply_numbers};
 
 use call_dock::Dock;
 use call_reply_numbers::{
@@ -13,21 +13,21 @@ use call_reply_numbers::{
 
 pub fn row(dock: Dock, job: i32) -> RowReplyNumbers
     requires { passes dock.board ≡ true }
-    ensures { result ≡ rowReplyNumbers (looking.row dock.board job) }
+    ensures { result ≡ row_reply_numbers (looking.row dock.board job) }
 {
     row_reply_numbers(call_rows::row(dock.board, job))
 }
 
 pub fn pair(dock: Dock, a: i32, b: i32) -> PairReplyNumbers
     requires { passes dock.board ≡ true }
-    ensures { result ≡ pairReplyNumbers (looking.pair dock.board a b) }
+    ensures { result ≡ pair_reply_numbers (looking.pair dock.board a b) }
 {
     pair_reply_numbers(call_pairs::pair(dock.board, a, b))
 }
 
 pub fn plan(dock: Dock, budget: i32) -> PlanReplyNumbers
     requires { passes dock.board ≡ true }
-    ensures { result ≡ planReplyNumbers (planning.plan dock.board budget) }
+    ensures { result ≡ plan_reply_numbers (planning.plan dock.board budget) }
 {
     plan_reply_numbers(call_planner::plan(dock.board, budget))
 }

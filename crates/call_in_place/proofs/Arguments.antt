@@ -86,9 +86,9 @@ module _ {m : ℕ} (p : Mode) where
     passed [] zs = tt
     passed (c ∷ cs) zs = (c.val zs.0 ∷ [], passed cs zs.1)
 
-    pub values-taken : (cs : List (Carried m)) (zs : Values cs) → values cs (taken cs zs) ≡ zs
-    values-taken [] zs = refl
-    values-taken (c ∷ cs) zs = λ i. (c.read_made p κs zs.0 i, values-taken cs zs.1 i)
+    pub values_taken : (cs : List (Carried m)) (zs : Values cs) → values cs (taken cs zs) ≡ zs
+    values_taken [] zs = refl
+    values_taken (c ∷ cs) zs = λ i. (c.read_made p κs zs.0 i, values_taken cs zs.1 i)
 
     -- at exit nothing is said of them
     abbrev pub unsaid : (cs : List (Carried m)) (a : Denots (rows cs)) → Fins κs (slots cs) (kept cs) a

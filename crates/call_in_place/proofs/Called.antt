@@ -26,10 +26,10 @@ use denote.Triple.Clauses.{Ended, Clauses, closing, ensured, lasts}
 use denote.Triple.Spec.{triple_of}
 use denote.Triple.Statement.{Contract, Triple}
 use Rattle.paper_board.specs.declared.Board.{Board}
-use Rattle.call_in_place.proofs.Arguments.{Values, owned_by, slots, kept, rows, values, taken, passed, values-taken, takes_all}
+use Rattle.call_in_place.proofs.Arguments.{Values, owned_by, slots, kept, rows, values, taken, passed, values_taken, takes_all}
 use Rattle.call_in_place.proofs.Asked as asked
 use Rattle.call_in_place.proofs.Asked.{Asks, Holds}
-use Rattle.call_in_place.proofs.Boards.{dock, holding, dock-val, IsBoard, is-dock}
+use Rattle.call_in_place.proofs.Boards.{dock, holding, dock_val, IsBoard, is_dock}
 use Rattle.call_in_place.proofs.Carried.{by_value, Carried, value}
 use Rattle.call_in_place.proofs.Plain.{Plain}
 
@@ -76,7 +76,7 @@ module _ {m : ℕ} (cs : List (Carried m)) (R : RattleType) where
         arguments = ((κs, qs, tt, taken by_value κs cs zs, passed by_value κs cs zs), tt)
 
         same : values by_value κs cs (taken by_value κs cs zs) ≡ zs
-        same = values-taken by_value κs cs zs
+        same = values_taken by_value κs cs zs
 
         met : ent 𝓤 (emp 𝓤) (P zs)
             → ent 𝓤 (⋆ 𝓛 (‵ (owned_by κs cs zs) ∷ raw (toks 𝓛 m κs qs) ∷ [])) (ByValue.pre arguments)
@@ -136,16 +136,16 @@ module _ {m : ℕ} (cs : List (Carried m)) (R : RattleType) (asks : Asks cs) (Q 
     OfDock = ByValue (value dock ∷ cs) R 𝓤 Asked OfBoard 𝓛
 
     module _ (κs : Lfts m) (qs : Shares m) (h : Board) (zs : Values cs) where
-      abbrev to-dock : OfDock.Ghost
-      to-dock = arguments (value dock ∷ cs) R 𝓤 Asked OfBoard 𝓛 κs qs (holding h, zs)
+      abbrev to_dock : OfDock.Ghost
+      to_dock = arguments (value dock ∷ cs) R 𝓤 Asked OfBoard 𝓛 κs qs (holding h, zs)
 
-      pub dock-calls : {K : Type 0} {Γ : List (Item 𝓤)} {C : Calls 𝓤 H} {Λ : Loops 𝓤 H} {E : Env 𝓤 H}
+      pub dock_calls : {K : Type 0} {Γ : List (Item 𝓤)} {C : Calls 𝓤 H} {Λ : Loops 𝓤 H} {E : Env 𝓤 H}
           {q : Post 𝓤 H} {callee : Name} {xs : List Operand} {d : Place} {rest : Body}
           → K → FmC 𝓤 H 𝓛.laws C → Triple 𝓤 (C callee) OfDock → Holds cs asks h zs → IsBoard h
-          → Opds K 𝓛 (raw (OfDock.pre to-dock) ∷ Γ) E xs (dock-val h ∷ flat (rows by_value κs cs) (passed by_value κs cs zs))
+          → Opds K 𝓛 (raw (OfDock.pre to_dock) ∷ Γ) E xs (dock_val h ∷ flat (rows by_value κs cs) (passed by_value κs cs zs))
           → ((r : R.Denot) (v : Val) → Q h zs r → Is R r (v ∷ [])
           → Seq K 𝓛 (‵ (R.own r (v ∷ [])) ∷ raw (toks 𝓛 m κs qs) ∷ Γ) (lands C Λ E d v rest q))
           → Seq K 𝓛 (‵ (owned_by κs cs zs) ∷ raw (toks 𝓛 m κs qs) ∷ Γ) (runs C Λ E (seq (call callee xs d) rest) q)
-      dock-calls t fm known holds is os k =
-          owned t dock.Row (Is dock.Row) (dock.makes 𝓛) (holding h) (dock-val h ∷ []) (is-dock h is) $ fjoin t $
+      dock_calls t fm known holds is os k =
+          owned t dock.Row (Is dock.Row) (dock.makes 𝓛) (holding h) (dock_val h ∷ []) (is_dock h is) $ fjoin t $
           calls (value dock ∷ cs) R 𝓤 Asked OfBoard 𝓛 κs qs (holding h, zs) t fm known (asked.said cs 𝓤 asks h zs holds) os k

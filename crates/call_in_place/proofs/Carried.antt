@@ -27,16 +27,16 @@ use Rattle.call_in_place.proofs.Plain.{Plain, number}
 -- how a call takes the board
 pub data Mode : Type 0 where
   by_value : Mode
-  by-reference : Mode
+  by_reference : Mode
 
 -- the lifetimes of a signature whose arguments have m, and those that are the arguments'
 abbrev pub lifetimes : Mode → ℕ → ℕ
 lifetimes by_value m = m
-lifetimes by-reference m = suc m
+lifetimes by_reference m = suc m
 
 abbrev pub theirs : (p : Mode) (m : ℕ) → Lfts (lifetimes p m) → Lfts m
 theirs by_value m κs = κs
-theirs by-reference m κs = κs.1
+theirs by_reference m κs = κs.1
 
 -- One argument: what it stands for, its machine value and what it owns; and the same in a signature of either mode.
 pub record Carried (m : ℕ) : Type 2 where
@@ -50,7 +50,7 @@ pub record Carried (m : ℕ) : Type 2 where
   pub read : (p : Mode) (κs : Lfts (lifetimes p m)) → ((slot p).row κs).Denot → Value
   pub made : (p : Mode) (κs : Lfts (lifetimes p m)) → Value → ((slot p).row κs).Denot
   pub read_made : (p : Mode) (κs : Lfts (lifetimes p m)) (z : Value) → read p κs (made p κs z) ≡ z
-  -- it has the value's machine value, of the local's type, and is at the exit as it was passed
+  -- it has the value's machine value, of the local's type, and is at the exit was passed
   pub tells : (p : Mode) (κs : Lfts (lifetimes p m)) → Tells ((slot p).row κs) (Is ((slot p).row κs)) (λ x. val (read p κs x) ∷ [])
   pub typed : {M : Type 1} {𝓤 : Ura M} (𝓛 : Logic 𝓤) → (p : Mode) (κs : Lfts (lifetimes p m))
       (x : ((slot p).row κs).Denot) → Is ((slot p).row κs) x (val (read p κs x) ∷ [])
@@ -87,11 +87,11 @@ numbers (suc n) = value number ∷ numbers n
 -- a shared slice whose elements have the type X, of one machine value, at the j-th lifetime of the arguments'
 abbrev place : Mode → ℕ → ℕ
 place by_value j = j
-place by-reference j = suc j
+place by_reference j = suc j
 
 abbrev within : (p : Mode) (m j : ℕ) → Within m j → Within (lifetimes p m) (place p j)
 within by_value m j ok = ok
-within by-reference m j ok = ok
+within by_reference m j ok = ok
 
 module _ (m j : ℕ) (ok : Within m j) (X : RattleType) where
   abbrev sliced : Lfts m → Bor (List X.Denot) → Fml
@@ -104,12 +104,12 @@ module _ (m j : ℕ) (ok : Within m j) (X : RattleType) where
     pub slice_gives : (p : Mode) (κs : Lfts (lifetimes p m)) (z : Bor (List X.Denot))
         → ent 𝓤 (sem 𝓛 ((row p κs).own z (shr_slice_vals z))) (sem 𝓛 (sliced (theirs p m κs) z))
     slice_gives by_value κs z = id⊢ 𝓤 _
-    slice_gives by-reference κs z = id⊢ 𝓤 _
+    slice_gives by_reference κs z = id⊢ 𝓤 _
 
     pub slice_takes : (p : Mode) (κs : Lfts (lifetimes p m)) (z : Bor (List X.Denot))
         → ent 𝓤 (sem 𝓛 (sliced (theirs p m κs) z)) (sem 𝓛 ((row p κs).own z (shr_slice_vals z)))
     slice_takes by_value κs z = id⊢ 𝓤 _
-    slice_takes by-reference κs z = id⊢ 𝓤 _
+    slice_takes by_reference κs z = id⊢ 𝓤 _
 
   abbrev pub slice : One X.mir → Carried m
   slice one = record {

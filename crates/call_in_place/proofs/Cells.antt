@@ -150,10 +150,10 @@ module _ {m : ℕ} {M : Type 1} {𝓤 : Ura M} {𝓛 : Logic 𝓤} {K : Type 0} 
         (read_all t cs bs.1 zs.1 E (suc k) s.1 (⋆ 𝓛 (z ∷ d ∷ raw R ∷ [])))))
 
     -- entry n of the context is their cells, and they are the parameters after the board
-    pub look-all : {Γ : List (Item 𝓤)} → K → (n : ℕ) (cs : List (Carried m)) (bs : Blocks cs) (zs : Values cs) {e₀ e₁ : Ty × ℕ}
+    pub look_all : {Γ : List (Item 𝓤)} → K → (n : ℕ) (cs : List (Carried m)) (bs : Blocks cs) (zs : Values cs) {e₀ e₁ : Ty × ℕ}
         (E : Env 𝓤 H) → nth 𝓛 n Γ ≡ raw (Cells H p cs bs zs)
         → Opds K 𝓛 Γ (e₀ ∷ e₁ ∷ among H p cs bs E) (copies cs 2) (flat (rows p' κs cs) (passed p' κs cs zs))
-    look-all {Γ} t n cs bs zs {e₀} {e₁} E e =
+    look_all {Γ} t n cs bs zs {e₀} {e₁} E e =
         let R : SProp 𝓤 = ⋆ 𝓛 (del 𝓛 n Γ) in
         over
         (subst (λ (j : Item 𝓤). ent 𝓤 (⋆ 𝓛 Γ) (sep 𝓤 (mean 𝓛 j) R)) e (pull 𝓛 n Γ))

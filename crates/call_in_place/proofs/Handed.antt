@@ -21,7 +21,7 @@ use Rattle.paper_entries.specs.contracts.Entered as E
 use Rattle.paper_entries.proofs.Entered.TheLaws as E'
 use Rattle.paper_entries.specs.contracts.Entry as N
 use Rattle.paper_entries.proofs.Entry.TheLaws as N'
-use Rattle.call_in_place.proofs.Boards.{board-val, IsBoard}
+use Rattle.call_in_place.proofs.Boards.{board_val, IsBoard}
 use Rattle.call_in_place.proofs.Plain.{Plain, enum}
 
 pub record Handed : Type 2 where
@@ -33,14 +33,14 @@ pub record Handed : Type 2 where
   pub board : Both.Denot → Board
   -- what the struct's machine value is, and that its fields' are an answer's and a board's
   pub spelt : (r : Both.Denot) (vs : List Val) → Is Both r vs
-      → vs ≡ vstruct (vcons (Reply.val (reply r)) (vcons (board-val (board r)) vnil)) ∷ []
-  pub is-reply : (r : Both.Denot) (vs : List Val) → Is Both r vs → Is Reply.Row (reply r) (Reply.val (reply r) ∷ [])
-  pub is-board : (r : Both.Denot) (vs : List Val) → Is Both r vs → IsBoard (board r)
+      → vs ≡ vstruct (vcons (Reply.val (reply r)) (vcons (board_val (board r)) vnil)) ∷ []
+  pub is_reply : (r : Both.Denot) (vs : List Val) → Is Both r vs → Is Reply.Row (reply r) (Reply.val (reply r) ∷ [])
+  pub is_board : (r : Both.Denot) (vs : List Val) → Is Both r vs → IsBoard (board r)
   pub typed : {M : Type 1} {𝓤 : Ura M} (𝓛 : Logic 𝓤) → (r : Both.Denot) (v : Val)
       → Is Both r (v ∷ []) → T (has_ty (ty_struct name (tcons Reply.mir (tcons B'.mir tnil))) v) × WT v
 
-abbrev pub both-mir : Handed → Ty
-both-mir G = ty_struct G.name (tcons G.Reply.mir (tcons B'.mir tnil))
+abbrev pub both_mir : Handed → Ty
+both_mir G = ty_struct G.name (tcons G.Reply.mir (tcons B'.mir tnil))
 
 -- ---- of the entry calls
 
@@ -61,7 +61,7 @@ entered = record {
   reply = λ r. r.answer;
   board = λ r. r.board;
   spelt = LL.tells E.the_type E'.the_laws;
-  is-reply = λ r vs made. (LL.owed E.the_type E'.the_laws r vs made).0;
-  is-board = λ r vs made. (LL.owed E.the_type E'.the_laws r vs made).1.0;
+  is_reply = λ r vs made. (LL.owed E.the_type E'.the_laws r vs made).0;
+  is_board = λ r vs made. (LL.owed E.the_type E'.the_laws r vs made).1.0;
   typed = λ 𝓛 r v made. ((LL.lawful E.the_type E'.the_laws 𝓛).typed r (v ∷ []) made).0;
 }

@@ -30,11 +30,11 @@ pub record Plain : Type 2 where
   pub typed : {M : Type 1} {𝓤 : Ura M} (𝓛 : Logic 𝓤) → (x : Row.Denot) (v : Val) → Is Row x (v ∷ [])
       → T (has_ty mir v) × WT v
   pub makes : {M : Type 1} {𝓤 : Ura M} (𝓛 : Logic 𝓤) → Makes 𝓛 Row (Is Row)
-  -- a function leaves it as it was passed
+  -- a function leaves it was passed
   pub still : Row.exit yes ≡ unchanged
 
-pub its-value : (X : Plain) (x : X.Row.Denot) (vs : List Val) → Is X.Row x vs → Is X.Row x (X.val x ∷ [])
-its-value X x vs is = subst (Is X.Row x) (X.tells x vs is) is
+pub its_value : (X : Plain) (x : X.Row.Denot) (vs : List Val) → Is X.Row x vs → Is X.Row x (X.val x ∷ [])
+its_value X x vs is = subst (Is X.Row x) (X.tells x vs is) is
 
 abbrev pub number : Plain
 number = record {

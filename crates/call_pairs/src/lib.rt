@@ -1,6 +1,6 @@
 // "Pair of A, B: 0 no arc, 1 A to B, 2 B to A, 3 both; and the gap": on a board that has passed check 0.
 ghost use Rattle.std.specs.Prelude.{◌≡◌, true, cond, not, ◌&&◌, ◌+◌, ◌<◌, eqb, ltb, ◌-ℤ◌};
-ghost use Rattle.paper_board.specs.Paper.Limits.{Within, jobLimit};
+ghost use Rattle.paper_board.specs.Paper.Limits.{Within, job_limit};
 ghost use Rattle.paper_board.specs.Paper.View.{row_of};
 ghost use Rattle.paper_closure.specs.Passes.{passes};
 ghost use Rattle.paper_entries.specs.Paper.Looking as looking;
@@ -21,7 +21,7 @@ fn arcs(forth: bool, back: bool) -> u8
 }
 
 fn shown_arcs(board: Board, a: usize, b: usize) -> u8
-    requires { (a < jobLimit) × (b < jobLimit) }
+    requires { (a < job_limit) × (b < job_limit) }
     ensures { result ≡ looking.arcs board a b }
 {
     arcs(
@@ -32,7 +32,7 @@ fn shown_arcs(board: Board, a: usize, b: usize) -> u8
 
 // "the gap, which is E of B minus D of A and may be negative"
 fn shown_gap(board: Board, a: usize, b: usize) -> i32
-    requires { Within board × (a < jobLimit) × (b < jobLimit) }
+    requires { Within board × (a < job_limit) × (b < job_limit) }
     ensures { result ≡ (row_of board b).earliest -ℤ (row_of board a).latest }
 {
     ground_arithmetic::gap(board.earliest[b], board.latest[a])
@@ -47,8 +47,8 @@ fn is_live(jobs: usize, mark: u8, job: usize) -> bool
 
 // "If either is invalid, both numbers are 0."
 fn shown_pair(board: Board, a: usize, b: usize) -> PairAnswer
-    requires { Within board × (a < jobLimit) × (b < jobLimit) }
-    ensures { result ≡ looking.pairShown board a b }
+    requires { Within board × (a < job_limit) × (b < job_limit) }
+    ensures { result ≡ looking.pair_shown board a b }
 {
     if is_live(board.jobs, board.marks[a], a) && is_live(board.jobs, board.marks[b], b) {
         return PairAnswer::Pair {

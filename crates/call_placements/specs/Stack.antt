@@ -7,8 +7,8 @@ use Prim.Native.Nat.{ℕ, zero, suc, ◌+◌, ◌<◌}
 use Rattle.ground_sets.specs.Bit.{bit}
 use Rattle.paper_board.specs.Paper.View.{View}
 use Rattle.paper_plans.specs.Paper.Lists.{range, keep}
-use Rattle.paper_plans.specs.Paper.Tries.{Ending, found, none, add, ◌orElse◌, ready, inTime, unplaced, try, from, search}
-use Rattle.paper_plans.specs.EndingLaws.{add-zero, add-add, add-orElse, orElse-assoc}
+use Rattle.paper_plans.specs.Paper.Tries.{Ending, found, none, add, ◌or_else◌, ready, in_time, unplaced, try, from, search}
+use Rattle.paper_plans.specs.EndingLaws.{add_zero, add_add, add_or_else, or_else_assoc}
 
 -- the jobs placed up to a depth, the last one first
 unfoldable pub stack : (ℕ → ℕ) → ℕ → List ℕ
@@ -35,51 +35,51 @@ module _ (v : View) (order : List ℕ) where
   back jobs lefts n zero = none 0
   back jobs lefts n (suc d) = here (suc n) (stack jobs d) (lefts d) or_else back jobs lefts (suc n) d
 
-  pub back-same : (f f' g g' : ℕ → ℕ) (n d : ℕ)
+  pub back_same : (f f' g g' : ℕ → ℕ) (n d : ℕ)
       → ((i : ℕ) → i < d → f i ≡ f' i) → ((i : ℕ) → i < d → g i ≡ g' i) → back f g n d ≡ back f' g' n d
   unfolding back
-  back-same f f' g g' n zero h l = refl
-  back-same f f' g g' n (suc d) h l =
+  back_same f f' g g' n zero h l = refl
+  back_same f f' g g' n (suc d) h l =
       rw (
         stack_same f f' d λ i b. h i (omega arith),
         l d (omega arith),
-        back-same f f' g g' (suc n) d (λ i b. h i (omega arith)) λ i b. l i (omega arith),
+        back_same f f' g g' (suc n) d (λ i b. h i (omega arith)) λ i b. l i (omega arith),
       )
 
-  pub search-here : (n : ℕ) (ps : List ℕ) (left : ℕ) → members v left ≡ unplaced v order ps → search v order n ps ≡ here n ps left
+  pub search_here : (n : ℕ) (ps : List ℕ) (left : ℕ) → members v left ≡ unplaced v order ps → search v order n ps ≡ here n ps left
   unfolding search here
-  search-here zero ps left e = refl
-  search-here (suc n) ps left e = rw e
+  search_here zero ps left e = refl
+  search_here (suc n) ps left e = rw e
 
   -- the moves: `whole` is what the tries come to, of which t have been made
   module _ (whole : Ending) (t n : ℕ) (ps : List ℕ) (left : ℕ) (later : Ending)
       (so_far : whole ≡ add t (here (suc n) ps left or_else later)) where
     -- nothing is left to be tried from this list
-    pub tried-all : members v left ≡ [] → whole ≡ add t later
-    unfolding here from ◌orElse◌
-    tried-all e = so_far ∙ ap (add t) (rw e (add-zero later))
+    pub tried_all : members v left ≡ [] → whole ≡ add t later
+    unfolding here from ◌or_else◌
+    tried_all e = so_far ∙ ap (add t) (rw e (add_zero later))
 
     module _ (j left' : ℕ) (next : members v left ≡ j ∷ members v left') where
       -- a try is due
-      pub try-due : whole ≡ add (t + 1) (try v order (search v order n) ps j or_else here (suc n) ps left' or_else later)
+      pub try_due : whole ≡ add (t + 1) (try v order (search v order n) ps j or_else here (suc n) ps left' or_else later)
       unfolding here from
-      try-due =
+      try_due =
           so_far
-          ∙ ap (add t) (rw next (orElse-assoc _ _ later ∙ sym (add-orElse 1 _ _)))
-          ∙ add-add t 1 _
+          ∙ ap (add t) (rw next (or_else_assoc _ _ later ∙ sym (add_or_else 1 _ _)))
+          ∙ add_add t 1 _
 
       -- the try does not place the job
-      pub not-placed : (ready v order ps j && inTime v ps j) ≡ false → whole ≡ add (t + 1) (here (suc n) ps left' or_else later)
-      unfolding ◌orElse◌
-      not-placed e = try-due ∙ ap (add (t + 1)) (rw e (add-zero _))
+      pub not_placed : (ready v order ps j && in_time v ps j) ≡ false → whole ≡ add (t + 1) (here (suc n) ps left' or_else later)
+      unfolding ◌or_else◌
+      not_placed e = try_due ∙ ap (add (t + 1)) (rw e (add_zero _))
 
       -- it does
-      pub placed : (ready v order ps j && inTime v ps j) ≡ true
+      pub placed : (ready v order ps j && in_time v ps j) ≡ true
           → whole ≡ add (t + 1) (search v order n (j ∷ ps) or_else here (suc n) ps left' or_else later)
-      placed e = try-due ∙ ap (add (t + 1)) (rw e)
+      placed e = try_due ∙ ap (add (t + 1)) (rw e)
 
   -- all jobs are placed
   pub all_found : (whole : Ending) (t : ℕ) (ps : List ℕ) (left : ℕ) (later : Ending)
       → whole ≡ add t (here 0 ps left or_else later) → whole ≡ found t ps
-  unfolding here ◌orElse◌ add
+  unfolding here ◌or_else◌ add
   all_found whole t ps left later e = e ∙ ap (λ (n : ℕ). found n ps) (omega arith)

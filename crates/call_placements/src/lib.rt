@@ -2,7 +2,7 @@
 ghost use Rattle.std.specs.Prelude.{◌≡◌, ◌&&◌, ◌≤◌, eqb};
 ghost use Rattle.std.specs.Int.Signed.{le_z};
 ghost use Rattle.ground_sets.specs.Bit.{intersection};
-ghost use Rattle.paper_board.specs.Paper.Limits.{Within, jobLimit};
+ghost use Rattle.paper_board.specs.Paper.Limits.{Within, job_limit};
 ghost use Rattle.paper_board.specs.Paper.View.{view};
 ghost use Rattle.paper_plans.specs.Paper.Planner as paper;
 ghost use Rattle.call_placements.specs.Stack.{stack};
@@ -32,8 +32,8 @@ pub fn places(before: u64, unplaced: u64, end: i32, latest: i32) -> bool
 // The starts of the first `count` jobs, placed in their order: "the later of E and the end of the job placed before, or E where none
 // is". Before any job the dock counts as free from the first minute on.
 fn starts(board: Board, jobs: [usize; Board::JOBS], count: usize) -> [i32; Board::JOBS]
-    requires { Within board × (count ≤ jobLimit) × EndInTime board jobs count }
-    ensures { result ≡ paper.startList (view board) (stack (at jobs) count) }
+    requires { Within board × (count ≤ job_limit) × EndInTime board jobs count }
+    ensures { result ≡ paper.start_list (view board) (stack (at jobs) count) }
 {
     let mut starts = [0; Board::JOBS];
     let mut free = Board::FIRST_MINUTE;
@@ -54,8 +54,8 @@ pub fn found(
     valid: u64,
     tries: u32,
 ) -> Planned
-    requires { Within board × (count ≤ jobLimit) × EndInTime board jobs count }
-    ensures { result ≡ record { answer = PlanAnswer.Found tries; placed = valid; starts = paper.startList (view board) (stack (at jobs) count) } }
+    requires { Within board × (count ≤ job_limit) × EndInTime board jobs count }
+    ensures { result ≡ record { answer = PlanAnswer.Found tries; placed = valid; starts = paper.start_list (view board) (stack (at jobs) count) } }
 {
     Planned {
         answer: PlanAnswer::Found(tries),

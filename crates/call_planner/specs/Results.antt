@@ -7,31 +7,31 @@ use Rattle.std.proofs.Math.Bool.{false}
 use mathlib.Core.List.{List, []}
 use Rattle.ground_sets.specs.Bit.{bit, width}
 use Rattle.ground_walks.specs.Takes.{Next}
-use Rattle.ground_sets.specs.BitLaws.{bit-zero, bit-ext}
-use Rattle.ground_walks.specs.Walk.{trailing-lowest, takes}
+use Rattle.ground_sets.specs.BitLaws.{bit_zero, bit_ext}
+use Rattle.ground_walks.specs.Walk.{trailing_lowest, takes}
 use Rattle.ground_arithmetic.specs.Bools.{is_true, refuted, same_tests}
 use Rattle.paper_board.specs.declared.Board.{Board}
 use Rattle.paper_board.specs.Paper.View.{view}
-use Rattle.paper_board.specs.Paper.Limits.{Within, jobLimit}
+use Rattle.paper_board.specs.Paper.Limits.{Within, job_limit}
 use Rattle.paper_board.specs.Paper.Tests.{valid}
 use Rattle.paper_plans.specs.declared.PlanAnswer.TheVariants as Answers
 use Rattle.paper_plans.specs.Paper.Lists.{among, range}
 use Rattle.paper_plans.specs.Paper.Tries.{none, add}
-use Rattle.paper_plans.specs.Paper.Planner.{placedWord, startList, unplanned, plannedWithin}
-use Rattle.paper_plans.specs.ListLaws.{none-among, kept-at-most, range_length}
-use Rattle.paper_plans.specs.PlanLaws.{placed-bit, found-in-budget, none-in-budget, beyond-budget}
-use Rattle.paper_plans.specs.SearchReaches.{last-and-before}
-use Rattle.call_placements.specs.Stack.{stack, members, back, tried-all, try-due, all_found}
-use Rattle.call_placements.specs.Waiting.{order, waiting-fits, waitingCount, waiting-members, no-members, some-waits, least_first}
+use Rattle.paper_plans.specs.Paper.Planner.{placed_word, start_list, unplanned, planned_within}
+use Rattle.paper_plans.specs.ListLaws.{none_among, kept_at_most, range_length}
+use Rattle.paper_plans.specs.PlanLaws.{placed_bit, found_in_budget, none_in_budget, beyond_budget}
+use Rattle.paper_plans.specs.SearchReaches.{last_and_before}
+use Rattle.call_placements.specs.Stack.{stack, members, back, tried_all, try_due, all_found}
+use Rattle.call_placements.specs.Waiting.{order, waiting_fits, waiting_count, waiting_members, no_members, some_waits, least_first}
 use Rattle.call_placements.specs.PlannerState.{at, Placements, ending, PlannerState}
 
 -- the jobs of the stack are valid
 stacked : (b : Board) (jobs lefts : List ℕ) (frees : List ℤ) (depth : ℕ) → Placements b jobs lefts frees depth
     → (k : ℕ) → among (stack (at jobs) depth) k ≡ true → valid (view b) k ≡ true
 unfolding stack
-stacked b jobs lefts frees zero p k a = absurd (refuted (none-among k) a)
+stacked b jobs lefts frees zero p k a = absurd (refuted (none_among k) a)
 stacked b jobs lefts frees (suc d) p k a =
-    last-and-before (view b) (λ i z. valid (view b) i ≡ true) (at jobs d) (stack (at jobs) d)
+    last_and_before (view b) (λ i z. valid (view b) i ≡ true) (at jobs d) (stack (at jobs) d)
     (p d (omega arith)).job.0
     (stacked b jobs lefts frees d λ i l. p i (omega arith))
     k a
@@ -39,43 +39,43 @@ stacked b jobs lefts frees (suc d) p k a =
 module _ (b : Board) (h : Within b) (jobs lefts : List ℕ) (frees : List ℤ) (depth w left : ℕ) (free : ℤ) (t budget : ℕ)
     (s : PlannerState b jobs lefts frees depth w left free t budget) where
   -- no more jobs are placed than the board has places
-  pub deep : depth + waitingCount b (stack (at jobs) depth) ≤ jobLimit
-  deep = omega (arith, s.counted, kept-at-most (valid (view b)) (range 0 b.jobs), range_length 0 b.jobs, h.limits.jobs)
+  pub deep : depth + waiting_count b (stack (at jobs) depth) ≤ job_limit
+  deep = omega (arith, s.counted, kept_at_most (valid (view b)) (range 0 b.jobs), range_length 0 b.jobs, h.limits.jobs)
 
-  pub room : w ≢ 0 → depth < jobLimit
-  room waits = omega (arith, deep, (some-waits b w _ s.waiting waits).1)
+  pub room : w ≢ 0 → depth < job_limit
+  room waits = omega (arith, deep, (some_waits b w _ s.waiting waits).1)
 
-  pub exhausted : w ≢ 0 → left ≡ 0 → depth ≡ 0 → unplanned (Answers.None t) ≡ plannedWithin (view b) budget (ending b)
+  pub exhausted : w ≢ 0 → left ≡ 0 → depth ≡ 0 → unplanned (Answers.None t) ≡ planned_within (view b) budget (ending b)
   unfolding stack back add
   exhausted waits none_left empty =
       let s' = rw (none_left, empty) at s in
-      let (n, count) = some-waits b w [] s'.waiting waits in
-      let now : ending b ≡ none (t + 0) = tried-all (view b) (order b) (ending b) t n [] 0 (none 0) (rw count at s'.so_far) (no-members b) in
+      let (n, count) = some_waits b w [] s'.waiting waits in
+      let now : ending b ≡ none (t + 0) = tried_all (view b) (order b) (ending b) t n [] 0 (none 0) (rw count at s'.so_far) (no_members b) in
       let whole : ending b ≡ none t = now ∙ ap none (omega arith) in
-      rw whole (sym (none-in-budget (view b) budget t s.affordable))
+      rw whole (sym (none_in_budget (view b) budget t s.affordable))
 
-  pub overspent : w ≢ 0 → left ≢ 0 → t ≡ budget → unplanned (Answers.Spent budget) ≡ plannedWithin (view b) budget (ending b)
+  pub overspent : w ≢ 0 → left ≢ 0 → t ≡ budget → unplanned (Answers.Spent budget) ≡ planned_within (view b) budget (ending b)
   unfolding Next
   overspent waits some all =
       let ps = stack (at jobs) depth in
-      let fits = waiting-fits b h left ps s.untried in
-      let taken = takes width false left _ _ fits (trailing-lowest width left some fits) refl in
-      let (n, count) = some-waits b w ps s.waiting waits in
-      let now = try-due (view b) (order b) (ending b) t n ps left _ (rw count at s.so_far) _ _ (least_first b ps s.untried taken) in
-      rw (now, all) (sym (beyond-budget (view b) budget _))
+      let fits = waiting_fits b h left ps s.untried in
+      let taken = takes width false left _ _ fits (trailing_lowest width left some fits) refl in
+      let (n, count) = some_waits b w ps s.waiting waits in
+      let now = try_due (view b) (order b) (ending b) t n ps left _ (rw count at s.so_far) _ _ (least_first b ps s.untried taken) in
+      rw (now, all) (sym (beyond_budget (view b) budget _))
 
   module _ (empty : w ≡ 0) where
     -- the jobs placed are the valid ones
-    placed-valid : (k : ℕ) → among (stack (at jobs) depth) k ≡ valid (view b) k
-    placed-valid k =
+    placed_valid : (k : ℕ) → among (stack (at jobs) depth) k ≡ valid (view b) k
+    placed_valid k =
         same_tests _ _ (stacked b jobs lefts frees depth s.placements k) λ e.
-        is_true _ λ out. refuted (bit-zero k) (rw empty at ((s.waiting k).show (e, out)))
+        is_true _ λ out. refuted (bit_zero k) (rw empty at ((s.waiting k).show (e, out)))
 
-    pub all-are-placed : (valids : ℕ) → ((k : ℕ) → bit valids k ≡ valid (view b) k)
-        → record { answer = Answers.Found t; placed = valids; starts = startList (view b) (stack (at jobs) depth) } ≡ plannedWithin (view b) budget (ending b)
-    all-are-placed valids valid-word =
+    pub all_are_placed : (valids : ℕ) → ((k : ℕ) → bit valids k ≡ valid (view b) k)
+        → record { answer = Answers.Found t; placed = valids; starts = start_list (view b) (stack (at jobs) depth) } ≡ planned_within (view b) budget (ending b)
+    all_are_placed valids valid-word =
         let ps = stack (at jobs) depth in
-        let none-waits : waitingCount b ps ≡ 0 = ap length (sym (waiting-members b w ps s.waiting) ∙ ap (members (view b)) empty ∙ no-members b) in
-        let whole = all_found (view b) (order b) (ending b) t ps left _ (rw none-waits at s.so_far) in
-        let word : valids ≡ placedWord ps = bit-ext valids (placedWord ps) λ k. valid-word k ∙ sym (placed-valid k) ∙ sym (placed-bit ps k) in
-        rw (whole, word) (sym (found-in-budget (view b) budget t ps s.affordable))
+        let none_waits : waiting_count b ps ≡ 0 = ap length (sym (waiting_members b w ps s.waiting) ∙ ap (members (view b)) empty ∙ no_members b) in
+        let whole = all_found (view b) (order b) (ending b) t ps left _ (rw none_waits at s.so_far) in
+        let word : valids ≡ placed_word ps = bit_ext valids (placed_word ps) λ k. valid-word k ∙ sym (placed_valid k) ∙ sym (placed_bit ps k) in
+        rw (whole, word) (sym (found_in_budget (view b) budget t ps s.affordable))

@@ -17,7 +17,7 @@ use paper_plans::{PlanAnswer, Planned};
 // free from minute `free` on. `lefts` and `frees` hold what a placing taken back comes back to.
 fn search(board: Board, valid: u64, budget: u32) -> Planned
     requires { Within board × (valid ≡ sets.marked board.jobs board.marks 1) }
-    ensures { result ≡ paper.plannedWithin (view board) budget (definition.tries (view board) (paper.validJobs (view board))) }
+    ensures { result ≡ paper.planned_within (view board) budget (definition.tries (view board) (paper.valid_jobs (view board))) }
 {
     let mut jobs = [0; Board::JOBS];
     let mut lefts = [0; Board::JOBS];

@@ -2,13 +2,13 @@
 ghost use Rattle.std.specs.Prelude.{◌≡◌, true, [], ◌∷◌, ◌≤◌};
 ghost use Rattle.std.proofs.Math.Option.{some};
 ghost use Rattle.paper_board.specs.declared.Board as boards;
-ghost use Rattle.paper_board.specs.Paper.Limits.{jobLimit, Within};
+ghost use Rattle.paper_board.specs.Paper.Limits.{job_limit, Within};
 ghost use Rattle.paper_board.specs.Paper.Facts.{AboutJobs};
 ghost use Rattle.paper_board.specs.Paper.Values.{fact_of};
 ghost use Rattle.paper_rules.specs.Update.ArraysWithin.{filled, ArraysWithin, Alters};
 ghost use Rattle.engine_updates.specs.Applicable.{Applicable};
-ghost use Rattle.paper_entries.specs.Paper.Enter.{updateAll};
-ghost use Rattle.call_statements.specs.Stated.{rawOf, jobsWith, Storable, HavePlaces, States};
+ghost use Rattle.paper_entries.specs.Paper.Enter.{update_all};
+ghost use Rattle.call_statements.specs.Stated.{raw_of, jobs_with, Storable, HavePlaces, States};
 
 use call_statements::Stated;
 use engine_agenda::Agenda;
@@ -19,8 +19,8 @@ use paper_board::facts::Fact;
 
 // The number of jobs with what is stated.
 pub fn jobs_with(jobs: usize, stated: Stated) -> usize
-    requires { Storable jobs stated × (jobs ≤ jobLimit) }
-    ensures { result ≡ jobsWith jobs stated }
+    requires { Storable jobs stated × (jobs ≤ job_limit) }
+    ensures { result ≡ jobs_with jobs stated }
 {
     match stated {
         Stated::Row { .. } => jobs + 1,
@@ -38,7 +38,7 @@ pub fn is_shown<'a>(
     stated: Stated,
 ) -> bool
     requires { HavePlaces stated }
-    ensures { (b : boards.Board) → Within (filled b b.lengths earliest.now latest.now marks.now after.now b.before) → result ≡ true → rawOf (filled b b.lengths earliest.now latest.now marks.now after.now b.before) stated ≡ some (filled b b.lengths earliest.now latest.now marks.now after.now b.before) }
+    ensures { (b : boards.Board) → Within (filled b b.lengths earliest.now latest.now marks.now after.now b.before) → result ≡ true → raw_of (filled b b.lengths earliest.now latest.now marks.now after.now b.before) stated ≡ some (filled b b.lengths earliest.now latest.now marks.now after.now b.before) }
 {
     match stated {
         Stated::Row { .. } => false,
@@ -63,7 +63,7 @@ fn update_both(
     second: Fact,
 ) -> bool
     requires { ArraysWithin jobs lengths.old earliest.old latest.old marks.old after.old before.old × AboutJobs jobs (fact_of first) × Applicable first × AboutJobs jobs (fact_of second) × Applicable second }
-    ensures { Alters jobs (λ b. updateAll b (fact_of first ∷ fact_of second ∷ [])) lengths.old earliest.old latest.old marks.old after.old before.old result lengths.new earliest.new latest.new marks.new after.new before.new }
+    ensures { Alters jobs (λ b. update_all b (fact_of first ∷ fact_of second ∷ [])) lengths.old earliest.old latest.old marks.old after.old before.old result lengths.new earliest.new latest.new marks.new after.new before.new }
 {
     if !update(jobs, lengths, earliest, latest, marks, after, before, first) {
         return false;
@@ -116,7 +116,7 @@ pub fn due_to<'a>(
     before: &'a [u64; Board::JOBS],
     stated: Stated,
 ) -> Agenda
-    requires { Storable jobs stated × (jobs ≤ jobLimit) }
+    requires { Storable jobs stated × (jobs ≤ job_limit) }
 {
     match stated {
         Stated::Row { .. } => added(jobs),

@@ -16,8 +16,8 @@ use Rattle.paper_entries.specs.declared.RowAnswer.TheVariants as Rows
 use Rattle.paper_entries.specs.declared.PairAnswer.{PairAnswer}
 use Rattle.paper_entries.specs.declared.PairAnswer.TheVariants as Pairs
 use Rattle.paper_entries.specs.Paper.Entry.{Entry, addition, other}
-use Rattle.paper_entries.specs.Paper.Checks.{checks, firstRefusal}
-use Rattle.paper_entries.specs.Paper.Enter.{acceptance, concluded, judged, closureWith, enter}
+use Rattle.paper_entries.specs.Paper.Checks.{checks, first_refusal}
+use Rattle.paper_entries.specs.Paper.Enter.{acceptance, concluded, judged, closure_with, enter}
 use Rattle.paper_plans.specs.declared.PlanAnswer.{PlanAnswer}
 use Rattle.paper_plans.specs.declared.PlanAnswer.TheVariants as Plans
 use Rattle.paper_plans.specs.declared.Planned.{Planned}
@@ -25,7 +25,7 @@ use Rattle.call_reply_numbers.specs.declared.ReplyNumbers.{ReplyNumbers}
 use Rattle.call_reply_numbers.specs.declared.RowReplyNumbers.{RowReplyNumbers}
 use Rattle.call_reply_numbers.specs.declared.PairReplyNumbers.{PairReplyNumbers}
 use Rattle.call_reply_numbers.specs.declared.PlanReplyNumbers.{PlanReplyNumbers}
-use Rattle.call_reply_numbers.specs.ReplyNumbers.{replyNumbers, rowReplyNumbers, pairReplyNumbers, endingNumber, planNumber, planReplyNumbers}
+use Rattle.call_reply_numbers.specs.ReplyNumbers.{reply_numbers, row_reply_numbers, pair_reply_numbers, ending_number, plan_number, plan_reply_numbers}
 
 -- the refusal with a number
 abbrev table : List Refusal
@@ -36,81 +36,81 @@ table =
 abbrev pub numbered : ℕ → Refusal
 numbered n = get_or table n Refused.Board
 
-numbered-back : (r : Refusal) → numbered (number_of r) ≡ r
-numbered-back Refused.Board = refl
-numbered-back Refused.Full = refl
-numbered-back Refused.Job = refl
-numbered-back Refused.Same = refl
-numbered-back Refused.Length = refl
-numbered-back Refused.Time = refl
-numbered-back Refused.Window = refl
-numbered-back Refused.Mark = refl
-numbered-back Refused.Impossible = refl
-numbered-back Refused.Budget = refl
-numbered-back Refused.Form = refl
-numbered-back Refused.Load = refl
+numbered_back : (r : Refusal) → numbered (number_of r) ≡ r
+numbered_back Refused.Board = refl
+numbered_back Refused.Full = refl
+numbered_back Refused.Job = refl
+numbered_back Refused.Same = refl
+numbered_back Refused.Length = refl
+numbered_back Refused.Time = refl
+numbered_back Refused.Window = refl
+numbered_back Refused.Mark = refl
+numbered_back Refused.Impossible = refl
+numbered_back Refused.Budget = refl
+numbered_back Refused.Form = refl
+numbered_back Refused.Load = refl
 
 -- the answers with a reply
-abbrev pub answerTo : Entry → ReplyNumbers → Answer
-answerTo e r = cond r.accepted (acceptance r.number e) (Answers.Refused (numbered r.number))
+abbrev pub answer_to : Entry → ReplyNumbers → Answer
+answer_to e r = cond r.accepted (acceptance r.number e) (Answers.Refused (numbered r.number))
 
-abbrev pub rowAnswer : RowReplyNumbers → RowAnswer
-rowAnswer r =
+abbrev pub row_answer : RowReplyNumbers → RowAnswer
+row_answer r =
     cond
     r.accepted
     (Rows.Row r.mark r.earliest r.latest r.before r.after)
     (Rows.Refused (numbered r.refusal))
 
-abbrev pub pairAnswer : PairReplyNumbers → PairAnswer
-pairAnswer r = cond r.accepted (Pairs.Pair r.arcs r.gap) (Pairs.Refused (numbered r.refusal))
+abbrev pub pair_answer : PairReplyNumbers → PairAnswer
+pair_answer r = cond r.accepted (Pairs.Pair r.arcs r.gap) (Pairs.Refused (numbered r.refusal))
 
-abbrev pub planAnswer : ℕ → ℕ → PlanAnswer
-planAnswer e n = get_or (Plans.Found n ∷ Plans.None n ∷ Plans.Spent n ∷ []) e (Plans.Refused (numbered n))
+abbrev pub plan_answer : ℕ → ℕ → PlanAnswer
+plan_answer e n = get_or (Plans.Found n ∷ Plans.None n ∷ Plans.Spent n ∷ []) e (Plans.Refused (numbered n))
 
 abbrev pub planned : PlanReplyNumbers → Planned
-planned r = record { answer = planAnswer r.ending r.number; placed = r.placed; starts = r.starts }
+planned r = record { answer = plan_answer r.ending r.number; placed = r.placed; starts = r.starts }
 
 -- they are the answers replied to
 module _ (b : Board) (e : Entry) where
   abbrev Back : Answer → Type 0
-  Back a = answerTo e (replyNumbers a) ≡ a
+  Back a = answer_to e (reply_numbers a) ≡ a
 
-  refused-back : (r : Refusal) → Back (Answers.Refused r)
-  refused-back r = ap Answers.Refused (numbered-back r)
+  refused_back : (r : Refusal) → Back (Answers.Refused r)
+  refused_back r = ap Answers.Refused (numbered_back r)
 
-  accepted-back : (e' : Entry) (n : ℕ) → answerTo e' (replyNumbers (acceptance n e')) ≡ acceptance n e'
-  accepted-back (addition l e d m) n = refl
-  accepted-back (other s) n = refl
+  accepted_back : (e' : Entry) (n : ℕ) → answer_to e' (reply_numbers (acceptance n e')) ≡ acceptance n e'
+  accepted_back (addition l e d m) n = refl
+  accepted_back (other s) n = refl
 
-  concluded-back : (o : Option Board) → Back (concluded b (acceptance b.jobs e) o).answer
-  concluded-back none = refused-back Refused.Impossible
-  concluded-back (some c) = accepted-back e b.jobs
+  concluded_back : (o : Option Board) → Back (concluded b (acceptance b.jobs e) o).answer
+  concluded_back none = refused_back Refused.Impossible
+  concluded_back (some c) = accepted_back e b.jobs
 
-  judged-back : (o : Option Refusal) → Back (judged b e o).answer
-  judged-back (some r) = refused-back r
-  judged-back none = concluded-back (closureWith b e)
+  judged_back : (o : Option Refusal) → Back (judged b e o).answer
+  judged_back (some r) = refused_back r
+  judged_back none = concluded_back (closure_with b e)
 
-  pub entry-back : answerTo e (replyNumbers (enter b e).answer) ≡ (enter b e).answer
+  pub entry_back : answer_to e (reply_numbers (enter b e).answer) ≡ (enter b e).answer
   unfolding enter
-  entry-back = by-check (passes b) refl
+  entry_back = by_check (passes b) refl
     where
-      by-check : (t : Bool) → passes b ≡ t → Back (enter b e).answer
-      by-check false p = rw (p, enter) (refused-back Refused.Board)
-      by-check true p = rw (p, enter) (judged-back (firstRefusal (checks b.jobs e)))
+      by_check : (t : Bool) → passes b ≡ t → Back (enter b e).answer
+      by_check false p = rw (p, enter) (refused_back Refused.Board)
+      by_check true p = rw (p, enter) (judged_back (first_refusal (checks b.jobs e)))
 
-pub row_back : (a : RowAnswer) → rowAnswer (rowReplyNumbers a) ≡ a
+pub row_back : (a : RowAnswer) → row_answer (row_reply_numbers a) ≡ a
 row_back (Rows.Row m e d before after) = refl
-row_back (Rows.Refused r) = ap Rows.Refused (numbered-back r)
+row_back (Rows.Refused r) = ap Rows.Refused (numbered_back r)
 
-pub pair-back : (a : PairAnswer) → pairAnswer (pairReplyNumbers a) ≡ a
-pair-back (Pairs.Pair arcs gap) = refl
-pair-back (Pairs.Refused r) = ap Pairs.Refused (numbered-back r)
+pub pair_back : (a : PairAnswer) → pair_answer (pair_reply_numbers a) ≡ a
+pair_back (Pairs.Pair arcs gap) = refl
+pair_back (Pairs.Refused r) = ap Pairs.Refused (numbered_back r)
 
-ending-back : (a : PlanAnswer) → planAnswer (endingNumber a) (planNumber a) ≡ a
-ending-back (Plans.Found t) = refl
-ending-back (Plans.None t) = refl
-ending-back (Plans.Spent t) = refl
-ending-back (Plans.Refused r) = ap Plans.Refused (numbered-back r)
+ending_back : (a : PlanAnswer) → plan_answer (ending_number a) (plan_number a) ≡ a
+ending_back (Plans.Found t) = refl
+ending_back (Plans.None t) = refl
+ending_back (Plans.Spent t) = refl
+ending_back (Plans.Refused r) = ap Plans.Refused (numbered_back r)
 
-pub plan-back : (p : Planned) → planned (planReplyNumbers p) ≡ p
-plan-back p = ap (λ (a : PlanAnswer). record { answer = a; placed = p.placed; starts = p.starts }) (ending-back p.answer)
+pub plan_back : (p : Planned) → planned (plan_reply_numbers p) ≡ p
+plan_back p = ap (λ (a : PlanAnswer). record { answer = a; placed = p.placed; starts = p.starts }) (ending_back p.answer)

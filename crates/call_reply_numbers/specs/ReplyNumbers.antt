@@ -18,10 +18,10 @@ use Rattle.call_reply_numbers.specs.declared.PairReplyNumbers.{PairReplyNumbers}
 use Rattle.call_reply_numbers.specs.declared.PlanReplyNumbers.{PlanReplyNumbers}
 
 -- "`(ok K)` for an addition, K its number; `(ok)`; `(no R)` with refusal R"
-abbrev pub replyNumbers : Answer → ReplyNumbers
-replyNumbers (Answers.Added k) = record { accepted = true; number = k }
-replyNumbers Answers.Accepted = record { accepted = true; number = 0 }
-replyNumbers (Answers.Refused r) = record { accepted = false; number = number_of r }
+abbrev pub reply_numbers : Answer → ReplyNumbers
+reply_numbers (Answers.Added k) = record { accepted = true; number = k }
+reply_numbers Answers.Accepted = record { accepted = true; number = 0 }
+reply_numbers (Answers.Refused r) = record { accepted = false; number = number_of r }
 
 -- the same with the board after the entry
 pub record Replied : Type 0 where
@@ -29,34 +29,34 @@ pub record Replied : Type 0 where
   pub board : Board
 
 abbrev pub replied : Entered → Replied
-replied e = record { reply = replyNumbers e.answer; board = e.board }
+replied e = record { reply = reply_numbers e.answer; board = e.board }
 
 -- "Row of a job: mark, E, D, the set before it and the set after it."
-abbrev pub rowReplyNumbers : RowAnswer → RowReplyNumbers
-rowReplyNumbers (Rows.Row m e d before after) =
+abbrev pub row_reply_numbers : RowAnswer → RowReplyNumbers
+row_reply_numbers (Rows.Row m e d before after) =
     record { accepted = true; refusal = 0; mark = m; earliest = e; latest = d; before = before; after = after }
-rowReplyNumbers (Rows.Refused r) =
+row_reply_numbers (Rows.Refused r) =
     record { accepted = false; refusal = number_of r; mark = 0; earliest = pos 0; latest = pos 0; before = 0; after = 0 }
 
 -- "Pair of A, B: 0 no arc, 1 A to B, 2 B to A, 3 both; and the gap"
-abbrev pub pairReplyNumbers : PairAnswer → PairReplyNumbers
-pairReplyNumbers (Pairs.Pair arcs gap) = record { accepted = true; refusal = 0; arcs = arcs; gap = gap }
-pairReplyNumbers (Pairs.Refused r) = record { accepted = false; refusal = number_of r; arcs = 0; gap = pos 0 }
+abbrev pub pair_reply_numbers : PairAnswer → PairReplyNumbers
+pair_reply_numbers (Pairs.Pair arcs gap) = record { accepted = true; refusal = 0; arcs = arcs; gap = gap }
+pair_reply_numbers (Pairs.Refused r) = record { accepted = false; refusal = number_of r; arcs = 0; gap = pos 0 }
 
 -- found 0, none 1 or spent 2 with the number of tries; or 3 with the refusal's number
-abbrev pub endingNumber : PlanAnswer → ℕ
-endingNumber (Plans.Found t) = 0
-endingNumber (Plans.None t) = 1
-endingNumber (Plans.Spent t) = 2
-endingNumber (Plans.Refused r) = 3
+abbrev pub ending_number : PlanAnswer → ℕ
+ending_number (Plans.Found t) = 0
+ending_number (Plans.None t) = 1
+ending_number (Plans.Spent t) = 2
+ending_number (Plans.Refused r) = 3
 
-abbrev pub planNumber : PlanAnswer → ℕ
-planNumber (Plans.Found t) = t
-planNumber (Plans.None t) = t
-planNumber (Plans.Spent t) = t
-planNumber (Plans.Refused r) = number_of r
+abbrev pub plan_number : PlanAnswer → ℕ
+plan_number (Plans.Found t) = t
+plan_number (Plans.None t) = t
+plan_number (Plans.Spent t) = t
+plan_number (Plans.Refused r) = number_of r
 
 -- "its plan [..] holds the placed jobs with their starts"
-abbrev pub planReplyNumbers : Planned → PlanReplyNumbers
-planReplyNumbers p =
-    record { ending = endingNumber p.answer; number = planNumber p.answer; placed = p.placed; starts = p.starts }
+abbrev pub plan_reply_numbers : Planned → PlanReplyNumbers
+plan_reply_numbers p =
+    record { ending = ending_number p.answer; number = plan_number p.answer; placed = p.placed; starts = p.starts }

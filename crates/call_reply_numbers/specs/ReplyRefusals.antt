@@ -10,52 +10,52 @@ use Rattle.paper_entries.specs.declared.RowAnswer.{RowAnswer}
 use Rattle.paper_entries.specs.declared.RowAnswer.TheVariants as Rows
 use Rattle.paper_entries.specs.declared.PairAnswer.{PairAnswer}
 use Rattle.paper_entries.specs.declared.PairAnswer.TheVariants as Pairs
-use Rattle.paper_entries.specs.Paper.Replies.{replyOf, rowReplyOf, pairReplyOf}
+use Rattle.paper_entries.specs.Paper.Replies.{reply_of, row_reply_of, pair_reply_of}
 use Rattle.paper_entries.specs.Paper.Enter.{enter}
 use Rattle.paper_entries.specs.Paper.Entry.{Entry}
-use Rattle.paper_entries.specs.Paper.Looking as Looking
+use Rattle.paper_entries.specs.Paper.Looking
 use Rattle.paper_plans.specs.declared.PlanAnswer.{PlanAnswer}
 use Rattle.paper_plans.specs.declared.PlanAnswer.TheVariants as Plans
 use Rattle.paper_plans.specs.declared.Planned.{Planned}
-use Rattle.paper_plans.specs.Paper.PlanReply.{planReplyOf}
-use Rattle.paper_plans.specs.Paper.Planner as Planner
+use Rattle.paper_plans.specs.Paper.PlanReply.{plan_reply_of}
+use Rattle.paper_plans.specs.Paper.Planner
 use Rattle.paper_demands.specs.Demand1Holds.{demand1}
-use Rattle.paper_requests.specs.Paper.Requests.{entry, row, pair, plan, a-row, a_pair, a-plan, sortOf, refusalsOf, entryRefusal, rowRefusal, pairRefusal, planRefusal}
-use Rattle.call_reply_numbers.specs.ReplyNumbers.{replyNumbers, rowReplyNumbers, pairReplyNumbers, planReplyNumbers}
+use Rattle.paper_requests.specs.Paper.Requests.{entry, row, pair, plan, a-row, a_pair, a-plan, sort_of, refusals_of, entry_refusal, row_refusal, pair_refusal, plan_refusal}
+use Rattle.call_reply_numbers.specs.ReplyNumbers.{reply_numbers, row_reply_numbers, pair_reply_numbers, plan_reply_numbers}
 
 -- a reply that isn't accepted has the number of the refusal
-entry-number : (a : Answer) → (replyNumbers a).accepted ≡ false → entryRefusal (replyOf a) ≡ some (replyNumbers a).number
-entry-number (Answers.Added k) e = clash (cc)
-entry-number Answers.Accepted e = clash (cc)
-entry-number (Answers.Refused r) e = refl
+entry_number : (a : Answer) → (reply_numbers a).accepted ≡ false → entry_refusal (reply_of a) ≡ some (reply_numbers a).number
+entry_number (Answers.Added k) e = clash (cc)
+entry_number Answers.Accepted e = clash (cc)
+entry_number (Answers.Refused r) e = refl
 
-row_number : (a : RowAnswer) → (rowReplyNumbers a).accepted ≡ false → rowRefusal (rowReplyOf a) ≡ some (rowReplyNumbers a).refusal
+row_number : (a : RowAnswer) → (row_reply_numbers a).accepted ≡ false → row_refusal (row_reply_of a) ≡ some (row_reply_numbers a).refusal
 row_number (Rows.Row m e d before after) q = clash (cc)
 row_number (Rows.Refused r) q = refl
 
-pair-number : (a : PairAnswer) → (pairReplyNumbers a).accepted ≡ false → pairRefusal (pairReplyOf a) ≡ some (pairReplyNumbers a).refusal
-pair-number (Pairs.Pair n gap) q = clash (cc)
-pair-number (Pairs.Refused r) q = refl
+pair_number : (a : PairAnswer) → (pair_reply_numbers a).accepted ≡ false → pair_refusal (pair_reply_of a) ≡ some (pair_reply_numbers a).refusal
+pair_number (Pairs.Pair n gap) q = clash (cc)
+pair_number (Pairs.Refused r) q = refl
 
-pub entry-refusals : (b : Board) (e : Entry) → (replyNumbers (enter b e).answer).accepted ≡ false
-    → Memᴰ (replyNumbers (enter b e).answer).number (refusalsOf (sortOf (entry e)))
-entry-refusals b e q = demand1.refusals b (entry e) _ (entry-number (enter b e).answer q)
+pub entry_refusals : (b : Board) (e : Entry) → (reply_numbers (enter b e).answer).accepted ≡ false
+    → Memᴰ (reply_numbers (enter b e).answer).number (refusals_of (sort_of (entry e)))
+entry_refusals b e q = demand1.refusals b (entry e) _ (entry_number (enter b e).answer q)
 
-pub row-refusals : (b : Board) (j : ℤ) → (rowReplyNumbers (Looking.row b j)).accepted ≡ false
-    → Memᴰ (rowReplyNumbers (Looking.row b j)).refusal (refusalsOf a-row)
-row-refusals b j q = demand1.refusals b (row j) _ (row_number (Looking.row b j) q)
+pub row_refusals : (b : Board) (j : ℤ) → (row_reply_numbers (Looking.row b j)).accepted ≡ false
+    → Memᴰ (row_reply_numbers (Looking.row b j)).refusal (refusals_of a-row)
+row_refusals b j q = demand1.refusals b (row j) _ (row_number (Looking.row b j) q)
 
-pub pair-refusals : (b : Board) (x y : ℤ) → (pairReplyNumbers (Looking.pair b x y)).accepted ≡ false
-    → Memᴰ (pairReplyNumbers (Looking.pair b x y)).refusal (refusalsOf a_pair)
-pair-refusals b x y q = demand1.refusals b (pair x y) _ (pair-number (Looking.pair b x y) q)
+pub pair_refusals : (b : Board) (x y : ℤ) → (pair_reply_numbers (Looking.pair b x y)).accepted ≡ false
+    → Memᴰ (pair_reply_numbers (Looking.pair b x y)).refusal (refusals_of a_pair)
+pair_refusals b x y q = demand1.refusals b (pair x y) _ (pair_number (Looking.pair b x y) q)
 
 -- a plan that is refused ends with 3
-plan-number : (p : Planned) (a : PlanAnswer) → p.answer ≡ a → (planReplyNumbers p).ending ≡ 3 → planRefusal (planReplyOf p) ≡ some (planReplyNumbers p).number
-plan-number p (Plans.Found t) e q = clash (cc)
-plan-number p (Plans.None t) e q = clash (cc)
-plan-number p (Plans.Spent t) e q = clash (cc)
-plan-number p (Plans.Refused r) e q = rw e
+plan_number : (p : Planned) (a : PlanAnswer) → p.answer ≡ a → (plan_reply_numbers p).ending ≡ 3 → plan_refusal (plan_reply_of p) ≡ some (plan_reply_numbers p).number
+plan_number p (Plans.Found t) e q = clash (cc)
+plan_number p (Plans.None t) e q = clash (cc)
+plan_number p (Plans.Spent t) e q = clash (cc)
+plan_number p (Plans.Refused r) e q = rw e
 
-pub plan-refusals : (b : Board) (z : ℤ) → (planReplyNumbers (Planner.plan b z)).ending ≡ 3
-    → Memᴰ (planReplyNumbers (Planner.plan b z)).number (refusalsOf a-plan)
-plan-refusals b z q = demand1.refusals b (plan z) _ (plan-number (Planner.plan b z) (Planner.plan b z).answer refl q)
+pub plan_refusals : (b : Board) (z : ℤ) → (plan_reply_numbers (Planner.plan b z)).ending ≡ 3
+    → Memᴰ (plan_reply_numbers (Planner.plan b z)).number (refusals_of a-plan)
+plan_refusals b z q = demand1.refusals b (plan z) _ (plan_number (Planner.plan b z) (Planner.plan b z).answer refl q)

@@ -49,7 +49,7 @@ pub struct PlanReplyNumbers {
 }
 
 pub fn reply_numbers(answer: Answer) -> ReplyNumbers
-    ensures { result ≡ said.replyNumbers answer }
+    ensures { result ≡ said.reply_numbers answer }
 {
     match answer {
         Answer::Added(job) => ReplyNumbers {
@@ -68,7 +68,7 @@ pub fn reply_numbers(answer: Answer) -> ReplyNumbers
 }
 
 pub fn row_reply_numbers(row: RowAnswer) -> RowReplyNumbers
-    ensures { result ≡ said.rowReplyNumbers row }
+    ensures { result ≡ said.row_reply_numbers row }
 {
     match row {
         RowAnswer::Row {
@@ -99,7 +99,7 @@ pub fn row_reply_numbers(row: RowAnswer) -> RowReplyNumbers
 }
 
 pub fn pair_reply_numbers(pair: PairAnswer) -> PairReplyNumbers
-    ensures { result ≡ said.pairReplyNumbers pair }
+    ensures { result ≡ said.pair_reply_numbers pair }
 {
     match pair {
         PairAnswer::Pair { arcs, gap } => PairReplyNumbers {
@@ -118,7 +118,7 @@ pub fn pair_reply_numbers(pair: PairAnswer) -> PairReplyNumbers
 }
 
 fn ending_number(answer: PlanAnswer) -> u8
-    ensures { result ≡ said.endingNumber answer }
+    ensures { result ≡ said.ending_number answer }
 {
     match answer {
         PlanAnswer::Found(_) => 0,
@@ -129,7 +129,7 @@ fn ending_number(answer: PlanAnswer) -> u8
 }
 
 fn plan_number(answer: PlanAnswer) -> u32
-    ensures { result ≡ said.planNumber answer }
+    ensures { result ≡ said.plan_number answer }
 {
     match answer {
         PlanAnswer::Found(tries) => tries,
@@ -140,7 +140,7 @@ fn plan_number(answer: PlanAnswer) -> u32
 }
 
 pub fn plan_reply_numbers(planned: Planned) -> PlanReplyNumbers
-    ensures { result ≡ said.planReplyNumbers planned }
+    ensures { result ≡ said.plan_reply_numbers planned }
 {
     let answer = planned.answer;
     let starts = planned.starts;

@@ -1,6 +1,6 @@
 // "Row of a job: mark, E, D, the set before it and the set after it.": on a board that has passed check 0.
 ghost use Rattle.std.specs.Prelude.{◌≡◌, true, ◌<◌};
-ghost use Rattle.paper_board.specs.Paper.Limits.{jobLimit};
+ghost use Rattle.paper_board.specs.Paper.Limits.{job_limit};
 ghost use Rattle.paper_closure.specs.Passes.{passes};
 ghost use Rattle.paper_entries.specs.Paper.Looking as looking;
 
@@ -9,8 +9,8 @@ use paper_board::Board;
 use paper_entries::RowAnswer;
 
 fn shown_row(board: Board, job: usize) -> RowAnswer
-    requires { job < jobLimit }
-    ensures { result ≡ looking.rowShown board job }
+    requires { job < job_limit }
+    ensures { result ≡ looking.row_shown board job }
 {
     RowAnswer::Row {
         mark: board.marks[job],

@@ -1,7 +1,7 @@
 // What an entry states, once its checks have let it pass.
 ghost use Rattle.std.specs.Prelude.{◌≡◌, cond, eqb};
 ghost use Rattle.paper_entries.specs.Paper.EntryOf.{entry_of};
-ghost use Rattle.call_statements.specs.StatedBy.{ChecksPassed, statedBy};
+ghost use Rattle.call_statements.specs.StatedBy.{ChecksPassed, stated_by};
 
 use call_checks::{index, mark_value};
 use paper_board::Board;
@@ -52,7 +52,7 @@ fn cutting(job: usize, earliest: i32, latest: i32) -> Stated
 
 pub fn stated_by(entry: Entry) -> Stated
     requires { ChecksPassed (entry_of entry) }
-    ensures { result ≡ statedBy (entry_of entry) }
+    ensures { result ≡ stated_by (entry_of entry) }
 {
     match entry {
         Entry::Addition {

@@ -4,60 +4,60 @@ use Rattle.std.proofs.Common.{sym, ap, ◌∙◌, subst, arith, le-ltb}
 use Rattle.std.proofs.Math.Bool.{and-true, and-false}
 use Rattle.std.proofs.Math.Option.{none}
 use Rattle.std.proofs.Math.Decide.{dec_lt}
-use Rattle.ground_sets.specs.Bit.{bit, intersection, difference, setOf}
+use Rattle.ground_sets.specs.Bit.{bit, intersection, difference, set_of}
 use Rattle.ground_walks.specs.Takes.{Lowest}
-use Rattle.ground_sets.specs.BitLaws.{bit-zero, bit-intersection, bit-difference, bit-setOf, bit-ext, bits-bound}
-use Rattle.ground_walks.specs.Walk.{trailing-lowest}
+use Rattle.ground_sets.specs.BitLaws.{bit_zero, bit_intersection, bit_difference, bit_set_of, bit_ext, bits_bound}
+use Rattle.ground_walks.specs.Walk.{trailing_lowest}
 use Rattle.ground_arithmetic.specs.Bools.{and_parts, refuted}
 use Rattle.paper_board.specs.declared.Board.{Board}
 use Rattle.paper_board.specs.Paper.View.{Live, Valid, view, row_of}
-use Rattle.paper_board.specs.Paper.Limits.{jobLimit, Within}
-use Rattle.paper_board.specs.BoardTests.Live.{live-yes, valid-yes, valid-show}
+use Rattle.paper_board.specs.Paper.Limits.{job_limit, Within}
+use Rattle.paper_board.specs.BoardTests.Live.{live_yes, valid_yes, valid_show}
 use Rattle.paper_rules.specs.Update.ArraysWithin.{filled, possibly, ArraysWithin}
 use Rattle.paper_rules.specs.Update.Strike.{strike}
-use Rattle.paper_rules.specs.Update.StrikeLaws.{strike-member, strike-other}
-use Rattle.paper_rules.specs.Update.Derives.{Derived, Derives, derived-self}
-use Rattle.engine_marks.specs.Marked.{marked, unmarked, bit-live, bit-valid}
-use Rattle.engine_exclusion.specs.Gone.{AllGone, gone-valid, struck-all}
+use Rattle.paper_rules.specs.Update.StrikeLaws.{strike_member, strike_other}
+use Rattle.paper_rules.specs.Update.Derives.{Derived, Derives, derived_self}
+use Rattle.engine_marks.specs.Marked.{marked, unmarked, bit_live, bit_valid}
+use Rattle.engine_exclusion.specs.Gone.{AllGone, gone_valid, struck_all}
 use Rattle.engine_propagation.specs.Turns.{Turns, Onward, Shut}
 
 -- ---- the words of live and of valid jobs, where some are struck out
 
 module _ (c : Board) (within : Within c) (set : ℕ) where
   -- a test of each job's mark: those struck out have mark 2, the others their own
-  tested : (t : ℕ → Bool) (x : ℕ) → bit (setOf c.jobs (λ k. t (get_or (strike c set).marks k 0))) x
+  tested : (t : ℕ → Bool) (x : ℕ) → bit (set_of c.jobs (λ k. t (get_or (strike c set).marks k 0))) x
       ≡ (ltb x c.jobs && t (cond (bit set x) 2 (get_or c.marks x 0)))
-  tested t x = bit-setOf c.jobs _ x ∙ go (bit set x) refl (dec_lt x c.jobs)
+  tested t x = bit_set_of c.jobs _ x ∙ go (bit set x) refl (dec_lt x c.jobs)
     where
       go : (s : Bool) → bit set x ≡ s → Dec (x < c.jobs)
           → (ltb x c.jobs && t (get_or (strike c set).marks x 0)) ≡ (ltb x c.jobs && t (cond s 2 (get_or c.marks x 0)))
       go s e (no l) = rw (le-ltb x c.jobs (omega arith))
-      go true e (yes l) = ap (λ m. ltb x c.jobs && t m) (strike-member c within set x e l)
-      go false e (yes l) = ap (λ r. ltb x c.jobs && t r.mark) (strike-other c within set x e)
+      go true e (yes l) = ap (λ m. ltb x c.jobs && t m) (strike_member c within set x e l)
+      go false e (yes l) = ap (λ r. ltb x c.jobs && t r.mark) (strike_other c within set x e)
 
-  struck-live : set < 2 ^ jobLimit → unmarked c.jobs (strike c set).marks 2 ≡ difference jobLimit (unmarked c.jobs c.marks 2) set
-  struck-live width = bit-ext _ _ λ x.
+  struck_live : set < 2 ^ job_limit → unmarked c.jobs (strike c set).marks 2 ≡ difference job_limit (unmarked c.jobs c.marks 2) set
+  struck_live width = bit_ext _ _ λ x.
       tested (λ m. not (eqb m 2)) x ∙ go x (bit set x)
-      ∙ sym (bit-difference jobLimit (unmarked c.jobs c.marks 2) set x lives-fit width ∙ ap (λ t. t && not (bit set x)) (bit-setOf c.jobs _ x))
+      ∙ sym (bit_difference job_limit (unmarked c.jobs c.marks 2) set x lives_fit width ∙ ap (λ t. t && not (bit set x)) (bit_set_of c.jobs _ x))
     where
-      lives-fit : unmarked c.jobs c.marks 2 < 2 ^ jobLimit
-      lives-fit = bits-bound jobLimit _ λ k l. bit-setOf c.jobs _ k ∙ rw (le-ltb k c.jobs (omega (arith, within.limits.jobs)))
+      lives_fit : unmarked c.jobs c.marks 2 < 2 ^ job_limit
+      lives_fit = bits_bound job_limit _ λ k l. bit_set_of c.jobs _ k ∙ rw (le-ltb k c.jobs (omega (arith, within.limits.jobs)))
 
       go : (x : ℕ) (s : Bool) → (ltb x c.jobs && not (eqb (cond s 2 (get_or c.marks x 0)) 2))
           ≡ ((ltb x c.jobs && not (eqb (get_or c.marks x 0) 2)) && not s)
       go x true = and-false (ltb x c.jobs) ∙ sym (and-false (ltb x c.jobs && not (eqb (get_or c.marks x 0) 2)))
       go x false = sym (and-true (ltb x c.jobs && not (eqb (get_or c.marks x 0) 2)))
 
-  struck-valid : intersection set (marked c.jobs c.marks 1) ≡ 0 → marked c.jobs (strike c set).marks 1 ≡ marked c.jobs c.marks 1
-  struck-valid apart = bit-ext _ _ λ x.
-      tested (λ m. eqb m 1) x ∙ go x (bit set x) refl ∙ sym (bit-setOf c.jobs _ x)
+  struck_valid : intersection set (marked c.jobs c.marks 1) ≡ 0 → marked c.jobs (strike c set).marks 1 ≡ marked c.jobs c.marks 1
+  struck_valid apart = bit_ext _ _ λ x.
+      tested (λ m. eqb m 1) x ∙ go x (bit set x) refl ∙ sym (bit_set_of c.jobs _ x)
     where
       go : (x : ℕ) (s : Bool) → bit set x ≡ s → (ltb x c.jobs && eqb (cond s 2 (get_or c.marks x 0)) 1) ≡ (ltb x c.jobs && eqb (get_or c.marks x 0) 1)
       go x false e = refl
       go x true e =
           let valids = marked c.jobs c.marks 1 in
-          let none_both = sym (bit-intersection set valids x) ∙ ap (λ w. bit w x) apart ∙ bit-zero x in
-          let none-valid = sym (bit-setOf c.jobs (λ k. eqb (get_or c.marks k 0) 1) x) ∙ (rw e at none_both) in
+          let none_both = sym (bit_intersection set valids x) ∙ ap (λ w. bit w x) apart ∙ bit_zero x in
+          let none-valid = sym (bit_set_of c.jobs (λ k. eqb (get_or c.marks k 0) 1) x) ∙ (rw e at none_both) in
           and-false (ltb x c.jobs) ∙ sym none-valid
 
 -- On any board of n jobs within its limits inferences lead to where the arrays are altered to; or there is no board.
@@ -68,7 +68,7 @@ Advances n lengths earliest latest marks after before possible lengths' earliest
 
 -- what propagation promises of the arrays of a board of n jobs, with the words of its live and its valid jobs
 module _ (n : ℕ) (lengths earliest latest : List ℤ) (marks after before : List ℕ) (lives valids : ℕ)
-    (is_live : lives ≡ unmarked n marks 2) (is-valid : valids ≡ marked n marks 1)
+    (is_live : lives ≡ unmarked n marks 2) (is_valid : valids ≡ marked n marks 1)
     (earliest' latest' : List ℤ) (after' before' : List ℕ) (stuck : ℕ)
     (onward : Onward lives valids lengths earliest latest before after earliest' latest' before' after')
     (shut : Shut lives valids lengths earliest latest before after stuck) where
@@ -79,14 +79,14 @@ module _ (n : ℕ) (lengths earliest latest : List ℤ) (marks after before : Li
     abbrev end : Board
     end = filled b lengths earliest' latest' marks after' before'
 
-    lives-are : (x : ℕ) → bit lives x ≡ true → Live (view start) x
-    lives-are x e = live-yes (view start) x (sym (ap (λ w. bit w x) (rw (← jobs) at is_live) ∙ bit-live start x) ∙ e)
+    lives_are : (x : ℕ) → bit lives x ≡ true → Live (view start) x
+    lives_are x e = live_yes (view start) x (sym (ap (λ w. bit w x) (rw (← jobs) at is_live) ∙ bit_live start x) ∙ e)
 
-    valids-are : (x : ℕ) → bit valids x ≡ true → Valid (view start) x
-    valids-are x e = valid-yes (view start) x (sym (ap (λ w. bit w x) (rw (← jobs) at is-valid) ∙ bit-valid start x) ∙ e)
+    valids_are : (x : ℕ) → bit valids x ≡ true → Valid (view start) x
+    valids_are x e = valid_yes (view start) x (sym (ap (λ w. bit w x) (rw (← jobs) at is_valid) ∙ bit_valid start x) ∙ e)
 
     begun : Turns start lives valids earliest latest before after
-    begun = record { lives = lives-are; sound = valids-are; derived = derived-self start within }
+    begun = record { lives = lives_are; sound = valids_are; derived = derived_self start within }
 
     led : Derived start end
     led = (onward start refl begun).derived
@@ -95,52 +95,52 @@ module _ (n : ℕ) (lengths earliest latest : List ℤ) (marks after before : Li
     gone = shut start refl begun
 
     -- a valid job can't stay
-    contradiction : (both : ℕ) → both ≡ intersection stuck valids → both ≢ 0 → both < 2 ^ jobLimit → Derives start none
-    contradiction both e some-job width = excluded _ (trailing-lowest jobLimit both some-job width)
+    contradiction : (both : ℕ) → both ≡ intersection stuck valids → both ≢ 0 → both < 2 ^ job_limit → Derives start none
+    contradiction both e some-job width = excluded _ (trailing_lowest job_limit both some-job width)
       where
-        excluded : (x : ℕ) → Lowest jobLimit both x → Derives start none
+        excluded : (x : ℕ) → Lowest job_limit both x → Derives start none
         excluded x low =
-            let (out, valid) = and_parts (bit stuck x) (bit valids x) (sym (ap (λ w. bit w x) e ∙ bit-intersection stuck valids x) ∙ low.member) in
-            gone-valid start stuck x gone out (valids-are x valid)
+            let (out, valid) = and_parts (bit stuck x) (bit valids x) (sym (ap (λ w. bit w x) e ∙ bit_intersection stuck valids x) ∙ low.member) in
+            gone_valid start stuck x gone out (valids_are x valid)
 
     -- none of those that can't stay is valid
     undecided : intersection stuck valids ≡ 0 → (x : ℕ) → bit stuck x ≡ true → (row_of end x).mark ≢ 1
     undecided apart x e one =
-        let valid : bit valids x ≡ true = ap (λ w. bit w x) (rw (← jobs) at is-valid) ∙ bit-valid start x ∙ valid-show (view start) x ((gone.gone x e).0.0, one) in
-        refuted (sym (bit-intersection stuck valids x) ∙ ap (λ w. bit w x) apart ∙ bit-zero x) (rw (e, valid))
+        let valid : bit valids x ≡ true = ap (λ w. bit w x) (rw (← jobs) at is_valid) ∙ bit_valid start x ∙ valid_show (view start) x ((gone.gone x e).0.0, one) in
+        refuted (sym (bit_intersection stuck valids x) ∙ ap (λ w. bit w x) apart ∙ bit_zero x) (rw (e, valid))
 
     struck : intersection stuck valids ≡ 0 → Derived start (strike end stuck)
-    struck apart = struck-all start end led stuck gone (undecided apart) (λ x e. (gone.gone x e).0.1)
+    struck apart = struck_all start end led stuck gone (undecided apart) (λ x e. (gone.gone x e).0.1)
 
   -- all jobs can stay
   pub advanced : Advances n lengths earliest latest marks after before true lengths earliest' latest' marks after' before'
   advanced b jobs within = led b jobs within
 
   -- a valid one can't
-  pub advanced-none : (both : ℕ) → both ≡ intersection stuck valids → both ≢ 0 → both < 2 ^ jobLimit
+  pub advanced_none : (both : ℕ) → both ≡ intersection stuck valids → both ≢ 0 → both < 2 ^ job_limit
       → (b : Board) → b.jobs ≡ n → Within (filled b lengths earliest latest marks after before) → Derives (filled b lengths earliest latest marks after before) none
-  advanced-none both e some-job width b jobs within = contradiction b jobs within both e some-job width
+  advanced_none both e some-job width b jobs within = contradiction b jobs within both e some-job width
 
   -- others can't, and are struck out
-  pub advanced-struck : intersection stuck valids ≡ 0
+  pub advanced_struck : intersection stuck valids ≡ 0
       → (lengths'' earliest'' latest'' : List ℤ) (marks'' after'' before'' : List ℕ)
       → ((b : Board) → b.jobs ≡ n
       → filled b lengths'' earliest'' latest'' marks'' after'' before'' ≡ strike (filled b lengths earliest' latest' marks after' before') stuck)
       → Advances n lengths earliest latest marks after before true lengths'' earliest'' latest'' marks'' after'' before''
-  advanced-struck apart lengths'' earliest'' latest'' marks'' after'' before'' is b jobs within =
+  advanced_struck apart lengths'' earliest'' latest'' marks'' after'' before'' is b jobs within =
       subst (Derived (filled b lengths earliest latest marks after before)) (sym (is b jobs)) (struck b jobs within apart)
 
   -- and what is left of the live jobs and of the valid ones
-  pub struck-sets : intersection stuck valids ≡ 0 → stuck < 2 ^ jobLimit → (rest : ℕ) → rest ≡ difference jobLimit lives stuck
+  pub struck_sets : intersection stuck valids ≡ 0 → stuck < 2 ^ job_limit → (rest : ℕ) → rest ≡ difference job_limit lives stuck
       → (lengths'' earliest'' latest'' : List ℤ) (marks'' after'' before'' : List ℕ)
       → ((b : Board) → b.jobs ≡ n
       → filled b lengths'' earliest'' latest'' marks'' after'' before'' ≡ strike (filled b lengths earliest' latest' marks after' before') stuck)
       → ArraysWithin n lengths earliest latest marks after before → (rest ≡ unmarked n marks'' 2) × (valids ≡ marked n marks'' 1)
-  struck-sets apart width rest e lengths'' earliest'' latest'' marks'' after'' before'' is h =
+  struck_sets apart width rest e lengths'' earliest'' latest'' marks'' after'' before'' is h =
       let b = h.board in
       let c = filled b lengths earliest' latest' marks after' before' in
       let within = (led b h.jobs h.within).more.within in
       let same = ap (λ x. x.marks) (is b h.jobs) in (
-        e ∙ rw (is_live, same, ← h.jobs) (sym (struck-live c within stuck width)),
-        is-valid ∙ rw (same, ← h.jobs) (sym (struck-valid c within stuck (rw (is-valid, ← h.jobs) at apart))),
+        e ∙ rw (is_live, same, ← h.jobs) (sym (struck_live c within stuck width)),
+        is_valid ∙ rw (same, ← h.jobs) (sym (struck_valid c within stuck (rw (is_valid, ← h.jobs) at apart))),
       )

@@ -4,7 +4,7 @@ use Rattle.std.proofs.Common.{sym, ap, ◌∙◌, arith, below_more, eq-eqb, eqb
 use Rattle.std.proofs.Math.Decide.{dec_lt}
 use Rattle.std.specs.Int.Bits.{bit_or, bit_xor, xor_self}
 use Rattle.ground_sets.specs.Bit.{bit, width, union}
-use Rattle.ground_sets.specs.BitLaws.{bit-ext, bit_high, union-none, xor-none}
+use Rattle.ground_sets.specs.BitLaws.{bit_ext, bit_high, union_none, xor_none}
 use Rattle.paper_board.specs.BoardTests.Decides.{Decides, restated, eq}
 use Rattle.engine_transposition.specs.Transpose.{Transposed}
 
@@ -18,13 +18,13 @@ SameWords a b = (i : ℕ) → i < width → SameBits (get_or a i 0) (get_or b i 
 abbrev pub Agree : List ℕ → List ℕ → Type 0
 Agree after before = (i k : ℕ) → i < width → k < width → bit (get_or before k 0) i ≡ bit (get_or after i 0) k
 
-pub decides-same : (found a b : ℕ) → a < 2 ^ width → b < 2 ^ width
+pub decides_same : (found a b : ℕ) → a < 2 ^ width → b < 2 ^ width
     → Decides (eqb (bit_or found (bit_xor a b)) 0) ((found ≡ 0) × SameBits a b)
 unfolding union
-decides-same found a b fa fb =
+decides_same found a b fa fb =
     restated (eq (bit_or found (bit_xor a b)) 0)
-    (λ e. let (z, d) = union-none found (bit_xor a b) e in (z, λ k l. ap (λ (x : ℕ). bit x k) (xor-none a b d)))
-    (λ (z, s). rw (z, bit-ext a b (λ k. same s k (dec_lt k width)), xor_self b))
+    (λ e. let (z, d) = union_none found (bit_xor a b) e in (z, λ k l. ap (λ (x : ℕ). bit x k) (xor_none a b d)))
+    (λ (z, s). rw (z, bit_ext a b (λ k. same s k (dec_lt k width)), xor_self b))
   where
     -- past the width both words have no bits
     same : SameBits a b → (k : ℕ) → Dec (k < width) → bit a k ≡ bit b k

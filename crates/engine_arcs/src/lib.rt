@@ -3,17 +3,17 @@ ghost use Rattle.std.specs.Prelude.{◌≡◌, ◌<◌, get_or, set};
 ghost use Rattle.std.proofs.Math.Option.{some};
 ghost use Rattle.ground_sets.specs.Bit.{with};
 ghost use Rattle.paper_board.specs.declared.Board as boards;
-ghost use Rattle.paper_board.specs.Paper.Limits.{jobLimit, Within};
-ghost use Rattle.paper_board.specs.Paper.Facts.{is-arc};
+ghost use Rattle.paper_board.specs.Paper.Limits.{job_limit, Within};
+ghost use Rattle.paper_board.specs.Paper.Facts.{is_arc};
 ghost use Rattle.paper_rules.specs.Update.Updates as updates;
-ghost use Rattle.paper_rules.specs.Update.Shown.{arcShown};
+ghost use Rattle.paper_rules.specs.Update.Shown.{arc_shown};
 ghost use Rattle.paper_rules.specs.Update.ArraysWithin.{filled};
 
 use paper_board::Board;
 
 // An arc, in both words that keep it.
 pub fn link(before: &mut [u64; Board::JOBS], after: &mut [u64; Board::JOBS], from: usize, to: usize)
-    requires { (from < jobLimit) × (to < jobLimit) }
+    requires { (from < job_limit) × (to < job_limit) }
     ensures before_after { before.new ≡ set before.old to (with (get_or before.old to 0) from) }
     ensures after_after { after.new ≡ set after.old from (with (get_or after.old from 0) to) }
 {
@@ -28,8 +28,8 @@ pub fn is_joined<'a>(
     from: usize,
     to: usize,
 ) -> bool
-    requires { (from < jobLimit) × (to < jobLimit) }
-    ensures { (b : boards.Board) → result ≡ arcShown (filled b b.lengths b.earliest b.latest marks.now after.now b.before) from to }
+    requires { (from < job_limit) × (to < job_limit) }
+    ensures { (b : boards.Board) → result ≡ arc_shown (filled b b.lengths b.earliest b.latest marks.now after.now b.before) from to }
 {
     if marks[from] == Board::INVALID {
         return true;
@@ -48,8 +48,8 @@ pub fn join(
     from: usize,
     to: usize,
 )
-    requires { (from < jobLimit) × (to < jobLimit) }
-    ensures { (b : boards.Board) → from < b.jobs → to < b.jobs → let c = filled b b.lengths b.earliest b.latest marks.now after.old before.old in Within c → updates.update c (is-arc from to) ≡ some (filled b b.lengths b.earliest b.latest marks.now after.new before.new) }
+    requires { (from < job_limit) × (to < job_limit) }
+    ensures { (b : boards.Board) → from < b.jobs → to < b.jobs → let c = filled b b.lengths b.earliest b.latest marks.now after.old before.old in Within c → updates.update c (is_arc from to) ≡ some (filled b b.lengths b.earliest b.latest marks.now after.new before.new) }
 {
     if is_joined(marks, after, from, to) {
         return;

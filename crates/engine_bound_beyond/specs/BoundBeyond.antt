@@ -5,14 +5,14 @@ use Rattle.std.proofs.Common.{ap, ◌∙◌, subst, inl, inr}
 use Rattle.std.proofs.Math.Option.{Option, none, some}
 use Rattle.std.specs.Int.Signed.{lt_z}
 use Rattle.ground_sets.specs.Bit.{bit, intersection, difference, without}
-use Rattle.ground_sets.specs.BitLaws.{bit-zero, bit-difference, bit-without, without-lt}
-use Rattle.ground_arithmetic.specs.Bools.{refuted, by-test}
+use Rattle.ground_sets.specs.BitLaws.{bit_zero, bit_difference, bit_without, without_lt}
+use Rattle.ground_arithmetic.specs.Bools.{refuted, by_test}
 use Rattle.ground_arithmetic.specs.Linear.{whole, plus}
 use Rattle.paper_board.specs.Paper.View.{Side}
-use Rattle.paper_board.specs.Paper.Limits.{jobLimit}
+use Rattle.paper_board.specs.Paper.Limits.{job_limit}
 use Rattle.paper_board.specs.BoardTests.Decides.{Decides, retested, ◌and◌, negated, holds, eq}
 use Rattle.engine_sums.specs.Sums.{bound_at, end_at, load, Sum, Exceeds, over, EndsBy, Pushes}
-use Rattle.engine_sums.specs.SumLaws.{load-none}
+use Rattle.engine_sums.specs.SumLaws.{load_none}
 use Rattle.engine_sums.specs.Single.{single}
 
 -- r has the jobs of the set w but k that are not in k's word
@@ -42,46 +42,46 @@ pushing beyond valids j = intersection valids (get_or beyond j 0)
 abbrev pub BoundBeyond : Side → List ℤ → List ℤ → List ℕ → ℕ → ℕ → Option ℤ → Type 0
 BoundBeyond s times lengths beyond valids j = Says s times lengths beyond (pushing beyond valids j) j
 
-pub apart-is : (n w k word : ℕ) → w < 2 ^ n → word < 2 ^ n → k < n → ApartSet w k word (difference n (without n w k) word)
-apart-is n w k word fw fo l x =
-    retested (bit-difference n (without n w k) word x (without-lt n w k fw) fo)
-    (retested (bit-without n w k x fw l) (holds (bit w x) and negated (eq k x)) and negated (holds (bit word x)))
+pub apart_is : (n w k word : ℕ) → w < 2 ^ n → word < 2 ^ n → k < n → ApartSet w k word (difference n (without n w k) word)
+apart_is n w k word fw fo l x =
+    retested (bit_difference n (without n w k) word x (without_lt n w k fw) fo)
+    (retested (bit_without n w k x fw l) (holds (bit w x) and negated (eq k x)) and negated (holds (bit word x)))
 
 -- what the code finds of the word w
 module _ (s : Side) (times lengths : List ℤ) (beyond : List ℕ) (j w : ℕ) where
-  none-there : w ≡ 0 → Says s times lengths beyond w j none
-  none-there e = inl λ z p. absurd (refuted (ap (λ x. bit x p.first) e ∙ bit-zero p.first) (p.inside p.first p.member))
+  none_there : w ≡ 0 → Says s times lengths beyond w j none
+  none_there e = inl λ z p. absurd (refuted (ap (λ x. bit x p.first) e ∙ bit_zero p.first) (p.inside p.first p.member))
 
-  module _ (k rest : ℕ) (place : k < jobLimit) (member : bit w k ≡ true) (apart : ApartSet w k (get_or beyond k 0) rest) where
+  module _ (k rest : ℕ) (place : k < job_limit) (member : bit w k ≡ true) (apart : ApartSet w k (get_or beyond k 0) rest) where
     -- the last one with those that stand apart
-    pub last-ends-by : EndsBy s times lengths k rest (bound_at s times j) → Says s times lengths beyond w j none
-    last-ends-by ends = inr (record { last = k; member = member; rest = rest; apart = apart; ends = ends })
+    pub last_ends_by : EndsBy s times lengths k rest (bound_at s times j) → Says s times lengths beyond w j none
+    last_ends_by ends = inr (record { last = k; member = member; rest = rest; apart = apart; ends = ends })
 
     -- the last one alone, where none stands apart
-    pub last-alone : rest ≡ 0 → Says s times lengths beyond w j (over (bound_at s times j) (end_at s times lengths k))
-    last-alone none_Apart =
+    pub last_alone : rest ≡ 0 → Says s times lengths beyond w j (over (bound_at s times j) (end_at s times lengths k))
+    last_alone none_Apart =
         let end = end_at s times lengths k in
-        by-test (Says s times lengths beyond w j) (lt_z (bound_at s times j) end) (some end) none
+        by_test (Says s times lengths beyond w j) (lt_z (bound_at s times j) end) (some end) none
         (λ e. (single s times lengths w k place member, omega whole))
         (λ e.
-        last-ends-by
+        last_ends_by
         (record {
-          together = omega (whole, load-none lengths rest none_Apart, plus end (load lengths rest));
+          together = omega (whole, load_none lengths rest none_Apart, plus end (load lengths rest));
           sums = λ z p. absurd (no_member p.first (p.inside p.first p.member));
         }))
       where
         no_member : (x : ℕ) → bit rest x ≡ true → ⊥
-        no_member x = refuted (ap (λ y. bit y x) none_Apart ∙ bit-zero x)
+        no_member x = refuted (ap (λ y. bit y x) none_Apart ∙ bit_zero x)
 
   -- all sums
-  pub all-sums : (o : Option ℤ) → Exceeds (Sum s times lengths w) (bound_at s times j) o → Says s times lengths beyond w j o
-  all-sums none h = inl h
-  all-sums (some z) ((sum, _), above) = (sum, above)
+  pub all_sums : (o : Option ℤ) → Exceeds (Sum s times lengths w) (bound_at s times j) o → Says s times lengths beyond w j o
+  all_sums none h = inl h
+  all_sums (some z) ((sum, _), above) = (sum, above)
 
 -- where the word w holds these jobs
 module _ (s : Side) (times lengths : List ℤ) (beyond : List ℕ) (valids j w : ℕ) (is : w ≡ pushing beyond valids j) where
   pub said : (o : Option ℤ) → Says s times lengths beyond w j o → BoundBeyond s times lengths beyond valids j o
   said o = subst (λ x. Says s times lengths beyond x j o) is
 
-  pub none-beyond : w ≡ 0 → BoundBeyond s times lengths beyond valids j none
-  none-beyond e = said none (none-there s times lengths beyond j w e)
+  pub none_beyond : w ≡ 0 → BoundBeyond s times lengths beyond valids j none
+  none_beyond e = said none (none_there s times lengths beyond j w e)

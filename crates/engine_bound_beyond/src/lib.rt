@@ -1,9 +1,9 @@
 // The bound that the valid jobs beyond a job leave to it.
 ghost use Rattle.std.specs.Prelude.{◌≡◌, true, ◌≢◌, ◌<◌};
 ghost use Rattle.ground_sets.specs.Bit.{bit};
-ghost use Rattle.paper_board.specs.Paper.Limits.{jobLimit};
+ghost use Rattle.paper_board.specs.Paper.Limits.{job_limit};
 ghost use Rattle.paper_board.specs.Paper.Values.{side_of};
-ghost use Rattle.engine_sums.specs.Sums.{boundOf, Times, Lengths};
+ghost use Rattle.engine_sums.specs.Sums.{bound_of, Times, Lengths};
 ghost use Rattle.engine_bound_beyond.specs.BoundBeyond.{ApartSet, Says, BoundBeyond};
 
 use engine_energy::{ends_by, energy_bound};
@@ -14,7 +14,7 @@ use paper_board::facts::Side;
 // A last job of the set: one with none of the others on its opposite side. Where each has one, as on a cycle, any job will do.
 pub fn last(set: u64, opposite: &[u64; Board::JOBS]) -> usize
     requires { set ≢ 0 }
-    ensures { (result < jobLimit) × (bit set result ≡ true) }
+    ensures { (result < job_limit) × (bit set result ≡ true) }
 {
     let mut k = ground_walks::lowest(set);
     for _ in 0..Board::JOBS {
@@ -29,7 +29,7 @@ pub fn last(set: u64, opposite: &[u64; Board::JOBS]) -> usize
 
 // The jobs of the set but k that are not in k's word.
 pub fn standing_apart(set: u64, k: usize, word: u64) -> u64
-    requires { k < jobLimit }
+    requires { k < job_limit }
     ensures { ApartSet set k word result }
 {
     ground_sets::difference(ground_sets::without(set, k), word)
@@ -49,8 +49,8 @@ fn bound_of<'a>(
     opposite: &'a [u64; Board::JOBS],
     few: bool,
 ) -> EnergyBound
-    requires { (job < jobLimit) × (set ≢ 0) × Times times.now × Lengths lengths.now }
-    ensures { Says (side_of side) times.now lengths.now beyond.now set job (boundOf (side_of side) result) }
+    requires { (job < job_limit) × (set ≢ 0) × Times times.now × Lengths lengths.now }
+    ensures { Says (side_of side) times.now lengths.now beyond.now set job (bound_of (side_of side) result) }
 {
     let k = last(set, opposite);
     let apart = standing_apart(set, k, beyond[k]);
@@ -78,8 +78,8 @@ pub fn bound_beyond<'a>(
     valid: u64,
     few: bool,
 ) -> EnergyBound
-    requires { (job < jobLimit) × Times times.now × Lengths lengths.now }
-    ensures { BoundBeyond (side_of side) times.now lengths.now beyond.now valid job (boundOf (side_of side) result) }
+    requires { (job < job_limit) × Times times.now × Lengths lengths.now }
+    ensures { BoundBeyond (side_of side) times.now lengths.now beyond.now valid job (bound_of (side_of side) result) }
 {
     let set = ground_sets::intersection(valid, beyond[job]);
     if set == 0 {

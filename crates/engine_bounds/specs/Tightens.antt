@@ -10,10 +10,10 @@ use Rattle.paper_board.specs.Paper.Facts.{is_bound}
 use Rattle.paper_board.specs.Paper.Values.{turned}
 use Rattle.paper_rules.specs.Update.Updates.{exclude, tighten, update}
 use Rattle.paper_rules.specs.Update.ArraysWithin.{filled}
-use Rattle.paper_rules.specs.Update.Shown.{boundShown, bound-new}
+use Rattle.paper_rules.specs.Update.Shown.{bound_shown, bound_new}
 use Rattle.engine_windows.specs.declared.Window.{Window}
-use Rattle.engine_windows.specs.Windows.{bounded, windowOf, moved}
-use Rattle.engine_windows.specs.WindowLaws.{moved-raised}
+use Rattle.engine_windows.specs.Windows.{bounded, window_of, moved}
+use Rattle.engine_windows.specs.WindowLaws.{moved_raised}
 
 -- r says whether the board c shows the bound; else the job is to be excluded from the board as it was
 abbrev pub Tightens : Side → ℕ → ℤ → Board → Bool → Board → Type 0
@@ -22,19 +22,19 @@ Tightens s j z b r c =
 
 -- w is the window that job j is given
 module _ (b : Board) (s : Side) (j : ℕ) (t : ℤ) (w : Window) (job : j < b.jobs)
-    (new : boundShown s (turned s t) (row_of b j) ≡ false) (given : w ≡ bounded s t (windowOf (row_of b j))) where
+    (new : bound_shown s (turned s t) (row_of b j) ≡ false) (given : w ≡ bounded s t (window_of (row_of b j))) where
   tightens : update b (is_bound s j (turned s t)) ≡ tighten b j (moved w (row_of b j))
   tightens =
-      bound-new b s j (turned s t) job new
-      ∙ ap (tighten b j) (sym (ap (λ v. moved v (row_of b j)) given ∙ moved-raised s t (row_of b j)))
+      bound_new b s j (turned s t) job new
+      ∙ ap (tighten b j) (sym (ap (λ v. moved v (row_of b j)) given ∙ moved_raised s t (row_of b j)))
 
   -- the ends are stored; the rest of the row stays
-  pub bound-fits : (start end : ℤ) → start ≡ w.earliest → end ≡ w.latest → le_z (w.earliest +ℤ (row_of b j).length) w.latest ≡ true
+  pub bound_fits : (start end : ℤ) → start ≡ w.earliest → end ≡ w.latest → le_z (w.earliest +ℤ (row_of b j).length) w.latest ≡ true
       → update b (is_bound s j (turned s t))
       ≡ some (filled b b.lengths (set b.earliest j start) (set b.latest j end) b.marks b.after b.before)
   unfolding tighten
-  bound-fits start end e d room = tightens ∙ rw (room, e, d) (simp set-get_or)
+  bound_fits start end e d room = tightens ∙ rw (room, e, d) (simp set-get_or)
 
-  pub bound-cramped : le_z (w.earliest +ℤ (row_of b j).length) w.latest ≡ false → update b (is_bound s j (turned s t)) ≡ exclude b j
+  pub bound_cramped : le_z (w.earliest +ℤ (row_of b j).length) w.latest ≡ false → update b (is_bound s j (turned s t)) ≡ exclude b j
   unfolding tighten
-  bound-cramped room = tightens ∙ rw room
+  bound_cramped room = tightens ∙ rw room

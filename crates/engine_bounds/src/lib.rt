@@ -2,10 +2,10 @@
 ghost use Rattle.std.specs.Prelude.{◌≡◌, ◌<◌, pos, get_or};
 ghost use Rattle.ground_arithmetic.specs.Time.{Moderate};
 ghost use Rattle.paper_board.specs.declared.Board as boards;
-ghost use Rattle.paper_board.specs.Paper.Limits.{jobLimit};
+ghost use Rattle.paper_board.specs.Paper.Limits.{job_limit};
 ghost use Rattle.paper_board.specs.Paper.View.{row_of};
 ghost use Rattle.paper_board.specs.Paper.Values.{side_of, turned};
-ghost use Rattle.paper_rules.specs.Update.Shown.{boundShown};
+ghost use Rattle.paper_rules.specs.Update.Shown.{bound_shown};
 ghost use Rattle.paper_rules.specs.Update.ArraysWithin.{filled};
 ghost use Rattle.engine_bounds.specs.Tightens.{Tightens};
 
@@ -22,8 +22,8 @@ pub fn is_bounded<'a>(
     job: usize,
     time: i32,
 ) -> bool
-    requires { job < jobLimit }
-    ensures { (b : boards.Board) → result ≡ boundShown (side_of side) (turned (side_of side) time) (row_of (filled b b.lengths earliest.now latest.now marks.now b.after b.before) job) }
+    requires { job < job_limit }
+    ensures { (b : boards.Board) → result ≡ bound_shown (side_of side) (turned (side_of side) time) (row_of (filled b b.lengths earliest.now latest.now marks.now b.after b.before) job) }
 {
     if marks[job] == Board::INVALID {
         return true;
@@ -46,7 +46,7 @@ pub fn tighten<'a>(
     job: usize,
     time: i32,
 ) -> bool
-    requires { (job < jobLimit) × Moderate time × Moderate (get_or earliest.old job (pos 0)) × Moderate (get_or lengths.now job (pos 0)) }
+    requires { (job < job_limit) × Moderate time × Moderate (get_or earliest.old job (pos 0)) × Moderate (get_or lengths.now job (pos 0)) }
     ensures { (b : boards.Board) → job < b.jobs → Tightens (side_of side) job (turned (side_of side) time) (filled b lengths.now earliest.old latest.old marks.now b.after b.before) result (filled b lengths.now earliest.new latest.new marks.now b.after b.before) }
 {
     if is_bounded(earliest, latest, marks, side, job, time) {

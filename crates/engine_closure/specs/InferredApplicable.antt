@@ -4,7 +4,7 @@ use Rattle.std.specs.Prelude.{ℕ, ℤ, ◌+ℤ◌}
 use Rattle.std.specs.Int.Signed.{le_z}
 use Rattle.ground_arithmetic.specs.Bools.{is_false}
 use Rattle.ground_arithmetic.specs.Linear.{whole, plus}
-use Rattle.ground_arithmetic.specs.Sum.{total-range}
+use Rattle.ground_arithmetic.specs.Sum.{total_range}
 use Rattle.ground_arithmetic.specs.Time.{Moderate}
 use Rattle.paper_board.specs.declared.Board.{Board}
 use Rattle.paper_board.specs.declared.facts.Fact as Facts
@@ -14,23 +14,23 @@ use Rattle.paper_board.specs.Paper.Limits.{IsTime, Within}
 use Rattle.paper_rules.specs.Paper.Rules.{energy}
 use Rattle.paper_board.specs.Paper.Values.{side_of, fact_of}
 use Rattle.paper_rules.specs.Inference.Infers.{Infers, r45}
-use Rattle.paper_rules.specs.Inference.Forced.{valid-live}
+use Rattle.paper_rules.specs.Inference.Forced.{valid_live}
 use Rattle.paper_board.specs.BoardTests.Ranges.{ranges}
-use Rattle.paper_board.specs.BoardTests.BoundTime.{bound-time}
+use Rattle.paper_board.specs.BoardTests.BoundTime.{bound_time}
 use Rattle.engine_updates.specs.Applicable.{Applicable}
-use Rattle.engine_precedence.specs.ModerateTime.{moderate-time}
+use Rattle.engine_precedence.specs.ModerateTime.{moderate_time}
 
 module _ (b : Board) (within : Within b) where
   time : (s : Side) (j : ℕ) → Live (view b) j → IsTime (bound s (row_of b j))
-  time s j l = bound-time s (row_of b j) ((within.limits.rows j).live l.0 l.1)
+  time s j l = bound_time s (row_of b j) ((within.limits.rows j).live l.0 l.1)
 
   -- a new bound is above the old one, and at most all the lengths above a bound of another job
-  bound-moderate : (s : Side) (j : ℕ) (z : ℤ) → Infers (view b) (is_bound s j z) → (Holds (view b) (is_bound s j z) → ⊥) → Moderate z
-  bound-moderate _ _ _ (r45 s j S m lj p) unshown =
+  bound_moderate : (s : Side) (j : ℕ) (z : ℤ) → Infers (view b) (is_bound s j z) → (Holds (view b) (is_bound s j z) → ⊥) → Moderate z
+  bound_moderate _ _ _ (r45 s j S m lj p) unshown =
       let sum = m +ℤ energy (view b) S in
       let higher = is_false (le_z sum (bound s (row_of b j))) λ e. unshown (lj.0, λ _. omega whole) in
-      let member = valid-live (view b) p.member (p.valid p.member p.inside) in
-      let lengths = total-range b.jobs 10000 S (λ k. (row_of b k).length) λ k. ((ranges b within k).low, (ranges b within k).high) in (
+      let member = valid_live (view b) p.member (p.valid p.member p.inside) in
+      let lengths = total_range b.jobs 10000 S (λ k. (row_of b k).length) λ k. ((ranges b within k).low, (ranges b within k).high) in (
         omega (whole, higher, (time s j lj).low),
         omega (
           whole,
@@ -42,8 +42,8 @@ module _ (b : Board) (within : Within b) where
         ),
       )
 
-  pub inferred-applicable : (f : Facts.Fact) → Infers (view b) (fact_of f) → (Holds (view b) (fact_of f) → ⊥) → Applicable f
-  inferred-applicable (Facts.TheVariants.Arc i k) _ _ = tt
-  inferred-applicable (Facts.TheVariants.Bound s j t) infers unshown = moderate-time (side_of s) t (bound-moderate (side_of s) j _ infers unshown)
-  inferred-applicable (Facts.TheVariants.Valid j) _ _ = tt
-  inferred-applicable (Facts.TheVariants.Invalid j) _ _ = tt
+  pub inferred_applicable : (f : Facts.Fact) → Infers (view b) (fact_of f) → (Holds (view b) (fact_of f) → ⊥) → Applicable f
+  inferred_applicable (Facts.TheVariants.Arc i k) _ _ = tt
+  inferred_applicable (Facts.TheVariants.Bound s j t) infers unshown = moderate_time (side_of s) t (bound_moderate (side_of s) j _ infers unshown)
+  inferred_applicable (Facts.TheVariants.Valid j) _ _ = tt
+  inferred_applicable (Facts.TheVariants.Invalid j) _ _ = tt

@@ -6,23 +6,23 @@ use Rattle.paper_board.specs.declared.Board.{Board}
 use Rattle.paper_board.specs.Paper.View.{view}
 use Rattle.paper_board.specs.declared.facts.Fact as Facts
 use Rattle.paper_board.specs.Paper.Facts.{Fact, Holds, AboutJobs}
-use Rattle.paper_board.specs.Paper.Limits.{jobLimit, Within}
+use Rattle.paper_board.specs.Paper.Limits.{job_limit, Within}
 use Rattle.paper_board.specs.Paper.Values.{fact_of}
 use Rattle.paper_rules.specs.Inference.Infers.{Infers, Obeys}
 use Rattle.paper_rules.specs.Update.ArraysWithin.{filled, arrayed, ArraysWithin, possibly, Alters}
 use Rattle.paper_rules.specs.Update.Updates.{update}
-use Rattle.paper_rules.specs.Update.Derives.{Derives, derived-self, derives-then, infers-known}
+use Rattle.paper_rules.specs.Update.Derives.{Derives, derived_self, derives_then, infers_known}
 use Rattle.engine_updates.specs.Applicable.{Applicable}
 use Rattle.engine_marks.specs.Marked.{marked, unmarked}
 use Rattle.engine_findings.specs.Searched.{Searched}
 use Rattle.engine_search.specs.PairsWalk.{ReadSearched}
 use Rattle.engine_advance.specs.Advances.{Advances}
 use Rattle.paper_closure.specs.Closure.{closure}
-use Rattle.paper_rules.specs.Inference.AboutMore.{about-more}
-use Rattle.paper_closure.specs.Measure.{measure, measure-mono}
-use Rattle.engine_search.specs.Reads.{board-read}
-use Rattle.engine_closure.specs.InferredApplicable.{inferred-applicable}
-use Rattle.paper_closure.specs.DerivedClosure.{derives-closure, derived-closure, derived-next, derived-none}
+use Rattle.paper_rules.specs.Inference.AboutMore.{about_more}
+use Rattle.paper_closure.specs.Measure.{measure, measure_mono}
+use Rattle.engine_search.specs.Reads.{board_read}
+use Rattle.engine_closure.specs.InferredApplicable.{inferred_applicable}
+use Rattle.paper_closure.specs.DerivedClosure.{derives_closure, derived_closure, derived_next, derived_none}
 
 -- what holds of every board of n jobs within its limits with these arrays
 abbrev OnArrays : (Board → Type 0) → ℕ → List ℤ → List ℤ → List ℤ → List ℕ → List ℕ → List ℕ → Type 0
@@ -40,63 +40,63 @@ unfolding measure
 measured n lengths earliest latest marks after before b jobs = rw jobs
 
 module _ (n : ℕ) (lengths earliest latest : List ℤ) (marks after before : List ℕ) where
-  pub advances-none : Advances n lengths earliest latest marks after before true lengths earliest latest marks after before
-  advances-none b jobs within = derived-self (filled b lengths earliest latest marks after before) within
+  pub advances_none : Advances n lengths earliest latest marks after before true lengths earliest latest marks after before
+  advances_none b jobs within = derived_self (filled b lengths earliest latest marks after before) within
 
   -- a run that ends with a board
-  pub advances-possible : (possible : Bool) (lengths' earliest' latest' : List ℤ) (marks' after' before' : List ℕ) → possible ≡ true
+  pub advances_possible : (possible : Bool) (lengths' earliest' latest' : List ℤ) (marks' after' before' : List ℕ) → possible ≡ true
       → Advances n lengths earliest latest marks after before possible lengths' earliest' latest' marks' after' before'
       → Advances n lengths earliest latest marks after before true lengths' earliest' latest' marks' after' before'
-  advances-possible possible lengths' earliest' latest' marks' after' before' holds more = rw holds at more
+  advances_possible possible lengths' earliest' latest' marks' after' before' holds more = rw holds at more
 
   module _ (lengths' earliest' latest' : List ℤ) (marks' after' before' : List ℕ) (run : Advances n lengths earliest latest marks after before true lengths' earliest' latest' marks' after' before') where
     -- one run after another
-    advances-then : (possible : Bool) (lengths'' earliest'' latest'' : List ℤ) (marks'' after'' before'' : List ℕ)
+    advances_then : (possible : Bool) (lengths'' earliest'' latest'' : List ℤ) (marks'' after'' before'' : List ℕ)
         → Advances n lengths' earliest' latest' marks' after' before' possible lengths'' earliest'' latest'' marks'' after'' before'' → Advances n lengths earliest latest marks after before possible lengths'' earliest'' latest'' marks'' after'' before''
-    advances-then possible lengths'' earliest'' latest'' marks'' after'' before'' more b jobs within =
+    advances_then possible lengths'' earliest'' latest'' marks'' after'' before'' more b jobs within =
         let derived = run b jobs within in
-        derives-then _ _ derived (possibly possible (filled b lengths'' earliest'' latest'' marks'' after'' before'')) (more b jobs derived.more.within)
+        derives_then _ _ derived (possibly possible (filled b lengths'' earliest'' latest'' marks'' after'' before'')) (more b jobs derived.more.within)
 
-    pub advances-within : ArraysWithin n lengths earliest latest marks after before → ArraysWithin n lengths' earliest' latest' marks' after' before'
-    advances-within h = record { board = h.board; jobs = h.jobs; within = (run h.board h.jobs h.within).more.within }
+    pub advances_within : ArraysWithin n lengths earliest latest marks after before → ArraysWithin n lengths' earliest' latest' marks' after' before'
+    advances_within h = record { board = h.board; jobs = h.jobs; within = (run h.board h.jobs h.within).more.within }
 
     -- nothing is left to infer
-    arrays-closed : OnArrays (λ b. Obeys (view b)) n lengths' earliest' latest' marks' after' before' → Alters n closure lengths earliest latest marks after before true lengths' earliest' latest' marks' after' before'
-    arrays-closed obeys b jobs within =
+    arrays_closed : OnArrays (λ b. Obeys (view b)) n lengths' earliest' latest' marks' after' before' → Alters n closure lengths earliest latest marks after before true lengths' earliest' latest' marks' after' before'
+    arrays_closed obeys b jobs within =
         let derived = run b jobs within in
-        sym (derived-closure _ _ within derived (obeys b jobs derived.more.within))
+        sym (derived_closure _ _ within derived (obeys b jobs derived.more.within))
 
     -- there is no board
-    pub arrays-none : ((b : Board) → b.jobs ≡ n → Within (filled b lengths' earliest' latest' marks' after' before') → Derives (filled b lengths' earliest' latest' marks' after' before') none)
+    pub arrays_none : ((b : Board) → b.jobs ≡ n → Within (filled b lengths' earliest' latest' marks' after' before') → Derives (filled b lengths' earliest' latest' marks' after' before') none)
         → (b : Board) → b.jobs ≡ n → Within (filled b lengths earliest latest marks after before) → closure (filled b lengths earliest latest marks after before) ≡ none
-    arrays-none more b jobs within =
+    arrays_none more b jobs within =
         let derived = run b jobs within in
-        sym (derives-closure _ within (derives-then _ _ derived none (more b jobs derived.more.within)))
+        sym (derives_closure _ within (derives_then _ _ derived none (more b jobs derived.more.within)))
 
     -- one more inference
     module _ (f : Fact) (new : OnArrays (Unshown f) n lengths' earliest' latest' marks' after' before') (lengths'' earliest'' latest'' : List ℤ) (marks'' after'' before'' : List ℕ) where
-      pub arrays-next : Alters n (λ b. update b f) lengths' earliest' latest' marks' after' before' true lengths'' earliest'' latest'' marks'' after'' before'' → Advances n lengths earliest latest marks after before true lengths'' earliest'' latest'' marks'' after'' before''
-      arrays-next step b jobs within =
+      pub arrays_next : Alters n (λ b. update b f) lengths' earliest' latest' marks' after' before' true lengths'' earliest'' latest'' marks'' after'' before'' → Advances n lengths earliest latest marks after before true lengths'' earliest'' latest'' marks'' after'' before''
+      arrays_next step b jobs within =
           let derived = run b jobs within in
           let (infers, unshown) = new b jobs derived.more.within in
-          (derived-next _ _ within derived f infers unshown _ (step b jobs derived.more.within)).0
+          (derived_next _ _ within derived f infers unshown _ (step b jobs derived.more.within)).0
 
-      pub arrays-less : ArraysWithin n lengths earliest latest marks after before → Alters n (λ b. update b f) lengths' earliest' latest' marks' after' before' true lengths'' earliest'' latest'' marks'' after'' before''
+      pub arrays_less : ArraysWithin n lengths earliest latest marks after before → Alters n (λ b. update b f) lengths' earliest' latest' marks' after' before' true lengths'' earliest'' latest'' marks'' after'' before''
           → measure (arrayed n lengths'' earliest'' latest'' marks'' after'' before'') < measure (arrayed n lengths earliest latest marks after before)
-      arrays-less h step =
+      arrays_less h step =
           let b = h.board in
           let derived = run b h.jobs h.within in
           let (infers, unshown) = new b h.jobs derived.more.within in
-          let less = (derived-next _ _ h.within derived f infers unshown _ (step b h.jobs derived.more.within)).1 in
-          omega (arith, less, measure-mono _ _ derived.more, measured n lengths'' earliest'' latest'' marks'' after'' before'' b h.jobs, measured n lengths earliest latest marks after before b h.jobs)
+          let less = (derived_next _ _ h.within derived f infers unshown _ (step b h.jobs derived.more.within)).1 in
+          omega (arith, less, measure_mono _ _ derived.more, measured n lengths'' earliest'' latest'' marks'' after'' before'' b h.jobs, measured n lengths earliest latest marks after before b h.jobs)
 
     -- a mark would have to change
-    pub arrays-contradict : (f : Fact) → OnArrays (Unshown f) n lengths' earliest' latest' marks' after' before' → OnArrays (λ b. update b f ≡ none) n lengths' earliest' latest' marks' after' before'
+    pub arrays_contradict : (f : Fact) → OnArrays (Unshown f) n lengths' earliest' latest' marks' after' before' → OnArrays (λ b. update b f ≡ none) n lengths' earliest' latest' marks' after' before'
         → (b : Board) → b.jobs ≡ n → Within (filled b lengths earliest latest marks after before) → closure (filled b lengths earliest latest marks after before) ≡ none
-    arrays-contradict f new step b jobs within =
+    arrays_contradict f new step b jobs within =
         let derived = run b jobs within in
         let failed = step b jobs derived.more.within in
-        sym (derived-none _ _ within derived f (new b jobs derived.more.within).0 failed) ∙ failed
+        sym (derived_none _ _ within derived f (new b jobs derived.more.within).0 failed) ∙ failed
 
 -- Where propagation has led to from the first arrays: to arrays within their limits, with the words of their live and their valid jobs.
 pub record Led (n : ℕ) (lengths₀ earliest₀ latest₀ : List ℤ) (marks₀ after₀ before₀ : List ℕ)
@@ -104,7 +104,7 @@ pub record Led (n : ℕ) (lengths₀ earliest₀ latest₀ : List ℤ) (marks₀
   pub run : Advances n lengths₀ earliest₀ latest₀ marks₀ after₀ before₀ true lengths earliest latest marks after before
   pub within : ArraysWithin n lengths earliest latest marks after before
   pub is_live : lives ≡ unmarked n marks 2
-  pub is-valid : valids ≡ marked n marks 1
+  pub is_valid : valids ≡ marked n marks 1
 
 pub led : {n : ℕ} {lengths₀ earliest₀ latest₀ : List ℤ} {marks₀ after₀ before₀ : List ℕ} {lengths earliest latest : List ℤ} {marks after before : List ℕ}
     {lengths' earliest' latest' : List ℤ} {marks' after' before' : List ℕ} {possible : Bool} {lives valids : ℕ}
@@ -112,12 +112,12 @@ pub led : {n : ℕ} {lengths₀ earliest₀ latest₀ : List ℤ} {marks₀ afte
     → Advances n lengths earliest latest marks after before possible lengths' earliest' latest' marks' after' before' × (possible ≡ true → (lives ≡ unmarked n marks' 2) × (valids ≡ marked n marks' 1))
     → Led n lengths₀ earliest₀ latest₀ marks₀ after₀ before₀ lengths' earliest' latest' marks' after' before' lives valids
 led (run, within) holds (more, sets) =
-    let on = advances-possible _ _ _ _ _ _ _ _ _ _ _ _ _ _ holds more in
+    let on = advances_possible _ _ _ _ _ _ _ _ _ _ _ _ _ _ holds more in
     record {
-      run = advances-then _ _ _ _ _ _ _ _ _ _ _ _ _ run true _ _ _ _ _ _ on;
-      within = advances-within _ _ _ _ _ _ _ _ _ _ _ _ _ on within;
+      run = advances_then _ _ _ _ _ _ _ _ _ _ _ _ _ run true _ _ _ _ _ _ on;
+      within = advances_within _ _ _ _ _ _ _ _ _ _ _ _ _ on within;
       is_live = (sets holds).0;
-      is-valid = (sets holds).1;
+      is_valid = (sets holds).1;
     }
 
 module _ {n : ℕ} {lengths₀ earliest₀ latest₀ : List ℤ} {marks₀ after₀ before₀ : List ℕ} {lengths earliest latest : List ℤ} {marks after before : List ℕ} {lives valids : ℕ}
@@ -125,27 +125,27 @@ module _ {n : ℕ} {lengths₀ earliest₀ latest₀ : List ℤ} {marks₀ after
   searched : OnArrays (λ b. Searched (view b) (Obeys (view b)) o) n lengths earliest latest marks after before
   searched b jobs within =
       let at = filled b lengths earliest latest marks after before in
-      found at (board-read at within (rw (← jobs) at h.is_live) (rw (← jobs) at h.is-valid))
+      found at (board_read at within (rw (← jobs) at h.is_live) (rw (← jobs) at h.is-valid))
 
   -- nothing is found
-  pub led-closed : o ≡ none → Alters n closure lengths₀ earliest₀ latest₀ marks₀ after₀ before₀ true lengths earliest latest marks after before
-  led-closed e = arrays-closed n lengths₀ earliest₀ latest₀ marks₀ after₀ before₀ lengths earliest latest marks after before h.run (λ b jobs within. rw e at (searched b jobs within))
+  pub led_closed : o ≡ none → Alters n closure lengths₀ earliest₀ latest₀ marks₀ after₀ before₀ true lengths earliest latest marks after before
+  led_closed e = arrays_closed n lengths₀ earliest₀ latest₀ marks₀ after₀ before₀ lengths earliest latest marks after before h.run (λ b jobs within. rw e at (searched b jobs within))
 
   -- a fact is found
   module _ (f : Fact) (e : o ≡ some f) where
-    pub led-unshown : OnArrays (Unshown f) n lengths earliest latest marks after before
-    led-unshown b jobs within = rw e at (searched b jobs within)
+    pub led_unshown : OnArrays (Unshown f) n lengths earliest latest marks after before
+    led_unshown b jobs within = rw e at (searched b jobs within)
 
-    pub led-known : AboutJobs n f
-    led-known =
+    pub led_known : AboutJobs n f
+    led_known =
         let b = h.within.board in
-        subst (λ m. AboutJobs m f) h.within.jobs (infers-known (view (filled b lengths earliest latest marks after before)) f (led-unshown b h.within.jobs h.within.within).0)
+        subst (λ m. AboutJobs m f) h.within.jobs (infers_known (view (filled b lengths earliest latest marks after before)) f (led_unshown b h.within.jobs h.within.within).0)
 
-    pub led-placed : AboutJobs jobLimit f
-    led-placed = about-more (omega (arith, h.within.jobs, h.within.within.limits.jobs)) f led-known
+    pub led_placed : AboutJobs job_limit f
+    led_placed = about_more (omega (arith, h.within.jobs, h.within.within.limits.jobs)) f led_known
 
-  pub led-applicable : (f : Facts.Fact) → o ≡ some (fact_of f) → Applicable f
-  led-applicable f e =
+  pub led_applicable : (f : Facts.Fact) → o ≡ some (fact_of f) → Applicable f
+  led_applicable f e =
       let b = h.within.board in
-      let (infers, unshown) = led-unshown (fact_of f) e b h.within.jobs h.within.within in
-      inferred-applicable (filled b lengths earliest latest marks after before) h.within.within f infers unshown
+      let (infers, unshown) = led_unshown (fact_of f) e b h.within.jobs h.within.within in
+      inferred_applicable (filled b lengths earliest latest marks after before) h.within.within f infers unshown

@@ -3,21 +3,21 @@ use Rattle.std.specs.Prelude.{◌≡◌, true, List, ◌≢◌, ℕ, ◌<◌, �
 use Rattle.std.proofs.Common.{sym}
 use Rattle.std.specs.Int.Signed.{lt_z}
 use Rattle.ground_sets.specs.Bit.{bit, difference, with, without}
-use Rattle.ground_sets.specs.BitLaws.{bit-difference, bit-without, without-lt}
+use Rattle.ground_sets.specs.BitLaws.{bit_difference, bit_without, without_lt}
 use Rattle.ground_arithmetic.specs.Linear.{whole}
 use Rattle.paper_board.specs.declared.Board.{Board}
 use Rattle.paper_board.specs.Paper.View.{Live, view}
-use Rattle.paper_board.specs.Paper.Limits.{jobLimit}
+use Rattle.paper_board.specs.Paper.Limits.{job_limit}
 use Rattle.paper_board.specs.BoardTests.Decides.{retested, ◌and◌, negated, holds, eq}
 use Rattle.paper_rules.specs.Inference.Infers.{r3}
 use Rattle.paper_board.specs.BoardTests.Sets.{Subset}
-use Rattle.engine_arcs.specs.Arcs.{Sound, sound_none, sound-link, sound-then}
+use Rattle.engine_arcs.specs.Arcs.{Sound, sound_none, sound_link, sound_then}
 
 -- the arrays are the board's own
 pub record ArraysRead (earliest latest lengths : List ℤ) (b : Board) : Type 0 where
-  pub is-earliest : b.earliest ≡ earliest
-  pub is-latest : b.latest ≡ latest
-  pub is-lengths : b.lengths ≡ lengths
+  pub is_earliest : b.earliest ≡ earliest
+  pub is_latest : b.latest ≡ latest
+  pub is_lengths : b.lengths ≡ lengths
 
 -- two live jobs of the board
 pub record Pair (first second : ℕ) (earliest latest lengths : List ℤ) (b : Board) : Type 0 where
@@ -49,7 +49,7 @@ module _ (earliest latest lengths : List ℤ) (before after : List ℕ) where
       → before' ≡ set before first (with (get_or before first 0) second) → after' ≡ set after second (with (get_or after second 0) first)
       → Sound (Pair first second earliest latest lengths) before after before' after'
   detected first second before' after' late e d =
-      sound-link (Pair first second earliest latest lengths) before after before after (sound_none (Pair first second earliest latest lengths) before after)
+      sound_link (Pair first second earliest latest lengths) before after before after (sound_none (Pair first second earliest latest lengths) before after)
       second first before' after' e d λ b h p derived.
       let test = rw (← p.read.is-latest, ← p.read.is-lengths, ← p.read.is-earliest) at late in
       r3 first second p.live.0 p.live.1 p.differ (omega (whole, test))
@@ -61,33 +61,33 @@ module _ (earliest latest lengths : List ℤ) (before after : List ℕ) where
       run b h (record { live = (p.live.1, p.live.0); differ = λ e. p.differ (sym e); read = p.read })
 
   -- one other job more
-  pub beside-more : (job others : ℕ) (before' after' : List ℕ) → Sound (Beside job others earliest latest lengths) before after before' after'
+  pub beside_more : (job others : ℕ) (before' after' : List ℕ) → Sound (Beside job others earliest latest lengths) before after before' after'
       → (k : ℕ) → bit others k ≡ true → (before'' after'' : List ℕ) → Sound (Pair job k earliest latest lengths) before' after' before'' after''
       → Sound (Beside job others earliest latest lengths) before after before'' after''
-  beside-more job others before' after' run k member before'' after'' rest =
-      sound-then (Beside job others earliest latest lengths) before after before' after' run (Pair job k earliest latest lengths) before'' after'' rest
-      λ b h p derived. let (live, ne) = p.beside k member in record { live = (p.live, live); differ = ne; read = record { is-earliest = p.read.is-earliest; is-latest = p.read.is-latest; is-lengths = p.read.is-lengths } }
+  beside_more job others before' after' run k member before'' after'' rest =
+      sound_then (Beside job others earliest latest lengths) before after before' after' run (Pair job k earliest latest lengths) before'' after'' rest
+      λ b h p derived. let (live, ne) = p.beside k member in record { live = (p.live, live); differ = ne; read = record { is_earliest = p.read.is-earliest; is_latest = p.read.is-latest; is_lengths = p.read.is-lengths } }
 
   -- one job more that is due, with the others that are not kept apart from it
-  pub job-detected : (due others : ℕ) → others < 2 ^ jobLimit → (before' after' : List ℕ) → Sound (Meeting due others earliest latest lengths) before after before' after'
-      → (job near apart : ℕ) → job < jobLimit → bit due job ≡ true → apart < 2 ^ jobLimit
-      → near ≡ difference jobLimit (without jobLimit others job) apart → (before'' after'' : List ℕ)
+  pub job_detected : (due others : ℕ) → others < 2 ^ job_limit → (before' after' : List ℕ) → Sound (Meeting due others earliest latest lengths) before after before' after'
+      → (job near apart : ℕ) → job < job_limit → bit due job ≡ true → apart < 2 ^ job_limit
+      → near ≡ difference job_limit (without job_limit others job) apart → (before'' after'' : List ℕ)
       → Sound (Beside job near earliest latest lengths) before' after' before'' after''
       → Sound (Meeting due others earliest latest lengths) before after before'' after''
-  job-detected due others width before' after' run job near apart place member fits e before'' after'' rest =
-      sound-then (Meeting due others earliest latest lengths) before after before' after' run (Beside job near earliest latest lengths) before'' after'' rest
+  job_detected due others width before' after' run job near apart place member fits e before'' after'' rest =
+      sound_then (Meeting due others earliest latest lengths) before after before' after' run (Beside job near earliest latest lengths) before'' after'' rest
       λ b h p derived. record {
         live = p.lives job member;
         beside = λ k m.
-            let tests = retested (bit-difference jobLimit (without jobLimit others job) apart k (without-lt jobLimit others job width) fits)
-            (retested (bit-without jobLimit others job k width place) (holds (bit others k) and negated (eq job k)) and negated (holds (bit apart k))) in
+            let tests = retested (bit_difference job_limit (without job_limit others job) apart k (without_lt job_limit others job width) fits)
+            (retested (bit_without job_limit others job k width place) (holds (bit others k) and negated (eq job k)) and negated (holds (bit apart k))) in
             let ((live, ne), _) = tests.yes (rw e at m) in
             (p.beside k live, ne);
-        read = record { is-earliest = p.read.is-earliest; is-latest = p.read.is-latest; is-lengths = p.read.is-lengths };
+        read = record { is_earliest = p.read.is-earliest; is_latest = p.read.is-latest; is_lengths = p.read.is-lengths };
       }
 
   -- jobs that are due, and others, all of them live
-  pub all-detected : (live due others : ℕ) → Subset due live → Subset others live → (before' after' : List ℕ)
+  pub all_detected : (live due others : ℕ) → Subset due live → Subset others live → (before' after' : List ℕ)
       → Sound (Meeting due others earliest latest lengths) before after before' after' → Sound (AllLive live earliest latest lengths) before after before' after'
-  all-detected live due others those beside before' after' run b h p =
+  all_detected live due others those beside before' after' run b h p =
       run b h (record { lives = λ k m. p.members k (those k m); beside = λ k m. p.members k (beside k m); read = p.read })

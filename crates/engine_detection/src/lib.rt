@@ -2,7 +2,7 @@
 // not be complete: what it leaves out the search finds.
 ghost use Rattle.std.specs.Prelude.{◌≢◌, ◌<◌};
 ghost use Rattle.ground_arithmetic.specs.Time.{Moderate};
-ghost use Rattle.paper_board.specs.Paper.Limits.{jobLimit};
+ghost use Rattle.paper_board.specs.Paper.Limits.{job_limit};
 ghost use Rattle.paper_board.specs.BoardTests.Sets.{Subset};
 ghost use Rattle.engine_sums.specs.Sums.{Times, Lengths};
 ghost use Rattle.engine_arcs.specs.Arcs.{Sound};
@@ -26,7 +26,7 @@ fn detect<'a>(
     latest: &'a [i32; Board::JOBS],
     lengths: &'a [i32; Board::JOBS],
 )
-    requires { (first < jobLimit) × (second < jobLimit) × Times earliest.now × Lengths lengths.now }
+    requires { (first < job_limit) × (second < job_limit) × Times earliest.now × Lengths lengths.now }
     ensures { Sound (Pair first second earliest.now latest.now lengths.now) before.old after.old before.new after.new }
 {
     let end = ground_arithmetic::sum(earliest[first], lengths[first]);
@@ -47,7 +47,7 @@ fn detect_on<'a>(
     latest: &'a [i32; Board::JOBS],
     lengths: &'a [i32; Board::JOBS],
 )
-    requires { (job < jobLimit) × (other < jobLimit) × Times earliest.now × Lengths lengths.now }
+    requires { (job < job_limit) × (other < job_limit) × Times earliest.now × Lengths lengths.now }
     ensures { Sound (Pair job other earliest.now latest.now lengths.now) before.old after.old before.new after.new }
 {
     match side {
@@ -67,7 +67,7 @@ fn detect_beside<'a>(
     latest: &'a [i32; Board::JOBS],
     lengths: &'a [i32; Board::JOBS],
 ) -> Ends
-    requires { (job < jobLimit) × Times earliest.now × Lengths lengths.now }
+    requires { (job < job_limit) × Times earliest.now × Lengths lengths.now }
     ensures { Sound (Beside job others earliest.now latest.now lengths.now) before.old after.old before.new after.new }
 {
     let known_before = before[job];

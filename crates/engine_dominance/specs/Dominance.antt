@@ -4,19 +4,19 @@ use Rattle.std.specs.Prelude.{◌≡◌, ◌≢◌, ◌⊎◌, Bool, true, false
 use Rattle.std.proofs.Common.{ap, ◌∙◌, inl, inr}
 use Rattle.std.specs.Int.Signed.{lt_z}
 use Rattle.ground_sets.specs.Bit.{bit}
-use Rattle.ground_sets.specs.BitLaws.{bit-zero}
+use Rattle.ground_sets.specs.BitLaws.{bit_zero}
 use Rattle.ground_arithmetic.specs.Bools.{refuted}
 use Rattle.ground_arithmetic.specs.Linear.{whole}
 use Rattle.paper_board.specs.declared.Board.{Board}
 use Rattle.paper_board.specs.Paper.View.{View, Valid, Side, bound, Beyond, view}
-use Rattle.paper_board.specs.Paper.Limits.{jobLimit}
+use Rattle.paper_board.specs.Paper.Limits.{job_limit}
 use Rattle.paper_board.specs.Paper.Values.{turned}
 use Rattle.paper_rules.specs.Inference.Infers.{Pushing}
 use Rattle.paper_board.specs.BoardTests.Sets.{Subset}
-use Rattle.engine_sums.specs.RaiseExact.{timesOf, bound-is}
+use Rattle.engine_sums.specs.RaiseExact.{times_of, bound_is}
 use Rattle.engine_bound_beyond.specs.BoundBeyond.{pushing}
 use Rattle.engine_job_rules.specs.SideSettled.{SideSettled}
-use Rattle.engine_job_rules.specs.JobSearched.{sideWords, SideRead, Represented, beyond-bit, pushing-bit}
+use Rattle.engine_job_rules.specs.JobSearched.{side_words, SideRead, Represented, beyond_bit, pushing_bit}
 
 -- the jobs of the set w lie in the word w', and as bounds on side s the time t is no lower than t'
 pub record Dominated (s : Side) (w w' : ℕ) (t t' : ℤ) : Type 0 where
@@ -32,7 +32,7 @@ tested shared e = record { shared = shared; low = omega whole }
 abbrev pub Represents : Side → List ℤ → List ℕ → ℕ → ℕ → ℕ → ℕ → Type 0
 Represents s times beyond valids done j r =
     let w = pushing beyond valids j in
-    (r < jobLimit)
+    (r < job_limit)
     × (r ≢ j → (w ≡ 0) ⊎ ((bit done r ≡ true) × Dominated s w (get_or beyond r 0) (get_or times j (pos 0)) (get_or times r (pos 0))))
 
 -- ---- over views
@@ -40,8 +40,8 @@ Represents s times beyond valids done j r =
 module _ (v : View) (s : Side) (p j : ℕ) (shared : (k : ℕ) → Valid v k → Beyond v s k j → Beyond v s k p)
     (low : bound s (v.row p) ≤ℤ bound s (v.row j)) where
   -- what pushes j pushes p
-  pushes-both : (S : ℕ → Bool) (m : ℤ) → Pushing v s j S m → Pushing v s p S m
-  pushes-both S m q =
+  pushes_both : (S : ℕ → Bool) (m : ℤ) → Pushing v s j S m → Pushing v s p S m
+  pushes_both S m q =
       record {
         member = q.member;
         inside = q.inside;
@@ -51,7 +51,7 @@ module _ (v : View) (s : Side) (p j : ℕ) (shared : (k : ℕ) → Valid v k →
       }
 
   pub dominated : SideSettled v s p → SideSettled v s j
-  dominated (inl obeyed) = inl λ S m q. omega (whole, obeyed S m (pushes-both S m q))
+  dominated (inl obeyed) = inl λ S m q. omega (whole, obeyed S m (pushes_both S m q))
   dominated (inr l) =
       inr
       (record {
@@ -60,7 +60,7 @@ module _ (v : View) (s : Side) (p j : ℕ) (shared : (k : ℕ) → Valid v k →
         apart = l.apart;
         others = λ k valid beyond. l.others k valid (shared k valid beyond);
         together = omega (whole, l.together);
-        sums = λ S m q inside. omega (whole, l.sums S m (pushes-both S m q) inside);
+        sums = λ S m q inside. omega (whole, l.sums S m (pushes_both S m q) inside);
       })
 
 -- ---- over the numbers and words of a board
@@ -70,16 +70,16 @@ module _ {b : Board} {s : Side} {times lengths : List ℤ} {beyond : List ℕ} {
       → Represented (view b) s r j
   represented done j r settled (_, serves) other = go (rw (h.is-times, h.is-beyond) at (serves other))
     where
-      pushes : (k : ℕ) → Valid (view b) k → Beyond (view b) s k j → bit (pushing (sideWords b s) valids j) k ≡ true
-      pushes k valid far = (pushing-bit b h.within valids h.is-valid s j k).show (valid, far)
+      pushes : (k : ℕ) → Valid (view b) k → Beyond (view b) s k j → bit (pushing (side_words b s) valids j) k ≡ true
+      pushes k valid far = (pushing_bit b h.within valids h.is-valid s j k).show (valid, far)
 
-      go : let w = pushing (sideWords b s) valids j in
-          (w ≡ 0) ⊎ ((bit done r ≡ true) × Dominated s w (get_or (sideWords b s) r 0) (get_or (timesOf b s) j (pos 0)) (get_or (timesOf b s) r (pos 0)))
+      go : let w = pushing (side_words b s) valids j in
+          (w ≡ 0) ⊎ ((bit done r ≡ true) × Dominated s w (get_or (side_words b s) r 0) (get_or (times_of b s) j (pos 0)) (get_or (times_of b s) r (pos 0)))
           → SideSettled (view b) s j
       go (inl none) = inl λ S m q.
           let k = q.member in
-          absurd (refuted (ap (λ w. bit w k) none ∙ bit-zero k) (pushes k (q.valid k q.inside) (q.beyond k q.inside)))
+          absurd (refuted (ap (λ w. bit w k) none ∙ bit_zero k) (pushes k (q.valid k q.inside) (q.beyond k q.inside)))
       go (inr (e, d)) =
-          dominated (view b) s r j (λ k valid far. (beyond-bit b h.within s r k).yes (d.shared k (pushes k valid far)))
-          (omega (whole, d.low, bound-is b s r, bound-is b s j))
+          dominated (view b) s r j (λ k valid far. (beyond_bit b h.within s r k).yes (d.shared k (pushes k valid far)))
+          (omega (whole, d.low, bound_is b s r, bound_is b s j))
           (settled r e)

@@ -1,6 +1,6 @@
 // Dominance: the job whose sums on one side serve for those of another.
 ghost use Rattle.std.specs.Prelude.{◌≡◌, true, ◌<◌};
-ghost use Rattle.paper_board.specs.Paper.Limits.{jobLimit};
+ghost use Rattle.paper_board.specs.Paper.Limits.{job_limit};
 ghost use Rattle.paper_board.specs.Paper.Values.{side_of};
 ghost use Rattle.engine_sums.specs.Sums.{Times};
 ghost use Rattle.engine_dominance.specs.Dominance.{Dominated, Represents};
@@ -31,7 +31,7 @@ pub fn representative<'a>(
     beyond: &'a [u64; Board::JOBS],
     valid: u64,
 ) -> usize
-    requires { (job < jobLimit) × (former < jobLimit) × Times times.now }
+    requires { (job < job_limit) × (former < job_limit) × Times times.now }
     ensures { Represents (side_of side) times.now beyond.now valid done job result }
 {
     let set = ground_sets::intersection(valid, beyond[job]);

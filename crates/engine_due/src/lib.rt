@@ -1,7 +1,7 @@
 // Where a fact begins to work: what propagation has to look at first on a board that shows it, where nothing else is left to do.
 ghost use Rattle.std.specs.Prelude.{◌<◌};
 ghost use Rattle.paper_board.specs.Paper.Facts.{AboutJobs};
-ghost use Rattle.paper_board.specs.Paper.Limits.{jobLimit};
+ghost use Rattle.paper_board.specs.Paper.Limits.{job_limit};
 ghost use Rattle.paper_board.specs.Paper.Values.{fact_of};
 
 use engine_agenda::{Agenda, nothing};
@@ -17,7 +17,7 @@ fn moved<'a>(
     after: &'a [u64; Board::JOBS],
     before: &'a [u64; Board::JOBS],
 ) -> Agenda
-    requires { job < jobLimit }
+    requires { job < job_limit }
 {
     let it = ground_sets::with(0, job);
     let pushes = marks[job] == Board::VALID;
@@ -37,7 +37,7 @@ fn moved<'a>(
 
 // A new arc: only a valid job moves the other one, and joins others through itself.
 fn joined(from: usize, to: usize, marks: &[u8; Board::JOBS]) -> Agenda
-    requires { (from < jobLimit) × (to < jobLimit) }
+    requires { (from < job_limit) × (to < job_limit) }
 {
     let mut due = nothing();
     if marks[from] == Board::VALID {
@@ -58,7 +58,7 @@ fn validated<'a>(
     after: &'a [u64; Board::JOBS],
     before: &'a [u64; Board::JOBS],
 ) -> Agenda
-    requires { job < jobLimit }
+    requires { job < job_limit }
 {
     let it = ground_sets::with(0, job);
     let mut due = nothing();
@@ -76,7 +76,7 @@ pub fn concerned<'a>(
     after: &'a [u64; Board::JOBS],
     before: &'a [u64; Board::JOBS],
 ) -> Agenda
-    requires { AboutJobs jobLimit (fact_of fact) }
+    requires { AboutJobs job_limit (fact_of fact) }
 {
     match fact {
         Fact::Arc { from, to } => joined(from, to, marks),
@@ -88,7 +88,7 @@ pub fn concerned<'a>(
 
 // A job added: it has no arcs yet.
 pub fn added(job: usize) -> Agenda
-    requires { job < jobLimit }
+    requires { job < job_limit }
 {
     let mut due = nothing();
     due.raised = ground_sets::with(0, job);

@@ -1,6 +1,6 @@
 // The ends of new arcs: what they give other rules to do. Nothing is promised of it: whatever is left out here, the search finds.
 ghost use Rattle.std.specs.Prelude.{◌<◌};
-ghost use Rattle.paper_board.specs.Paper.Limits.{jobLimit};
+ghost use Rattle.paper_board.specs.Paper.Limits.{job_limit};
 
 use paper_board::Board;
 
@@ -34,7 +34,7 @@ pub fn all_ends(some: Ends, others: Ends) -> Ends {
 
 // The others, and the job too where there are any at its other side.
 fn beside(others: u64, job: usize, further: u64) -> u64
-    requires { job < jobLimit }
+    requires { job < job_limit }
 {
     if further == 0 {
         return others;
@@ -50,7 +50,7 @@ fn joining<'a>(
     beyond: &'a [u64; Board::JOBS],
     opposite: &'a [u64; Board::JOBS],
 ) -> u64
-    requires { (job < jobLimit) × (next < jobLimit) }
+    requires { (job < job_limit) × (next < job_limit) }
 {
     let mut found = 0;
     if ground_sets::difference(ground_sets::without(beyond[next], job), beyond[job]) != 0 {
@@ -69,7 +69,7 @@ fn joining_each<'a>(
     beyond: &'a [u64; Board::JOBS],
     opposite: &'a [u64; Board::JOBS],
 ) -> u64
-    requires { job < jobLimit }
+    requires { job < job_limit }
 {
     let mut found = 0;
     let mut left = set;
@@ -85,7 +85,7 @@ fn joining_each<'a>(
 // The ends of arcs from each of `into` to `job`, and from `job` to each of `onward`. R1 may join others through those of `through`, and
 // those of `both` have arcs both ways to the job.
 fn ends_at(job: usize, into: u64, onward: u64, through: u64, both: u64) -> Ends
-    requires { job < jobLimit }
+    requires { job < job_limit }
 {
     Ends {
         early: beside(onward, job, into),
@@ -102,7 +102,7 @@ pub fn joined_at<'a>(
     before: &'a [u64; Board::JOBS],
     after: &'a [u64; Board::JOBS],
 ) -> Ends
-    requires { job < jobLimit }
+    requires { job < job_limit }
 {
     if onward == 0 {
         return no_ends();
@@ -119,7 +119,7 @@ pub fn found_at<'a>(
     before: &'a [u64; Board::JOBS],
     after: &'a [u64; Board::JOBS],
 ) -> Ends
-    requires { job < jobLimit }
+    requires { job < job_limit }
 {
     if ground_sets::union(into, onward) == 0 {
         return no_ends();

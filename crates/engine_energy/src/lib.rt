@@ -1,7 +1,7 @@
 // The energy bound of R4 and R5: the best sum that a set of jobs allows, without a copy of the jobs.
 ghost use Rattle.std.specs.Prelude.{◌≡◌, true, ◌<◌};
 ghost use Rattle.ground_arithmetic.specs.Time.{Moderate};
-ghost use Rattle.paper_board.specs.Paper.Limits.{jobLimit};
+ghost use Rattle.paper_board.specs.Paper.Limits.{job_limit};
 ghost use Rattle.paper_board.specs.Paper.Values as paper;
 ghost use Rattle.engine_sums.specs.Sums as sums;
 
@@ -89,7 +89,7 @@ pub fn energy_bound(
     floor: i32,
 ) -> EnergyBound
     requires { sums.Times times.now × sums.Lengths lengths.now × Moderate floor }
-    ensures { sums.Exceeds (sums.Sum (paper.side_of side) times.now lengths.now set) (paper.turned (paper.side_of side) floor) (sums.boundOf (paper.side_of side) result) }
+    ensures { sums.Exceeds (sums.Sum (paper.side_of side) times.now lengths.now set) (paper.turned (paper.side_of side) floor) (sums.bound_of (paper.side_of side) result) }
 {
     let low = turned(side, floor);
     let mut best = low;
@@ -112,7 +112,7 @@ pub fn ends_by(
     set: u64,
     floor: i32,
 ) -> bool
-    requires { sums.Times times.now × sums.Lengths lengths.now × (k < jobLimit) × Moderate floor }
+    requires { sums.Times times.now × sums.Lengths lengths.now × (k < job_limit) × Moderate floor }
     ensures { result ≡ true → sums.EndsBy (paper.side_of side) times.now lengths.now k set (paper.turned (paper.side_of side) floor) }
 {
     let all = whole(side, times, lengths, set);

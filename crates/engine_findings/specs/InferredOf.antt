@@ -6,6 +6,6 @@ use Rattle.engine_findings.specs.declared.Found.{Found}
 use Rattle.engine_findings.specs.declared.Found.TheVariants.{Nothing, Inferred}
 
 -- what a search found
-abbrev pub inferredOf : Found → Option Fact
-inferredOf Nothing = none
-inferredOf (Inferred f) = some (fact_of f)
+abbrev pub inferred_of : Found → Option Fact
+inferred_of Nothing = none
+inferred_of (Inferred f) = some (fact_of f)

@@ -39,13 +39,13 @@ module _ (v : View) where
   JobsObey = (i : ℕ) → Live v i → JobObeys i
 
   -- at each pair and at each job, the rules are obeyed
-  pub all-obey : ((i k : ℕ) → Arc v i k → Live v i × Live v k × (i ≢ k)) → PairsObey → JobsObey → Obeys v
-  all-obey joins pairs jobs _ (r1 a b c la vb lc ne ab bc) =
+  pub all_obey : ((i k : ℕ) → Arc v i k → Live v i × Live v k × (i ≢ k)) → PairsObey → JobsObey → Obeys v
+  all_obey joins pairs jobs _ (r1 a b c la vb lc ne ab bc) =
       let (_, lb, ab-ne) = joins a b ab in
       (la.0, lc.0, λ _ _. (pairs a la b (lb, ab-ne)).join vb ab c bc ne)
-  all-obey joins pairs jobs _ (r2 a b va lb ab ba) =
+  all_obey joins pairs jobs _ (r2 a b va lb ab ba) =
       let (la, _, ne) = joins a b ab in
       absurd ((pairs a la b (lb, ne)).exclude va ab ba)
-  all-obey joins pairs jobs _ (r3 a b la lb ne h) = (lb.0, la.0, λ _ _. (pairs a la b (lb, ne)).order h)
-  all-obey joins pairs jobs _ (r45 s j S m lj p) = (lj.0, λ _. (jobs j lj).pushed s S m p)
-  all-obey joins pairs jobs _ (r6 j lj h) = absurd ((jobs j lj).room h)
+  all_obey joins pairs jobs _ (r3 a b la lb ne h) = (lb.0, la.0, λ _ _. (pairs a la b (lb, ne)).order h)
+  all_obey joins pairs jobs _ (r45 s j S m lj p) = (lj.0, λ _. (jobs j lj).pushed s S m p)
+  all_obey joins pairs jobs _ (r6 j lj h) = absurd ((jobs j lj).room h)

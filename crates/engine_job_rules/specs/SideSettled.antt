@@ -5,16 +5,16 @@ use Rattle.std.proofs.Common.{sym, ap, ◌∙◌, inl, inr, ⊎_elim, below_more
 use Rattle.std.proofs.Math.Bool.{and-true}
 use Rattle.ground_arithmetic.specs.Bools.{is_true, is_false, refuted, and_parts}
 use Rattle.ground_arithmetic.specs.Linear.{whole, plus}
-use Rattle.ground_arithmetic.specs.Sum.{sum, total-member, total-more, total-split, total-subset, total-range}
+use Rattle.ground_arithmetic.specs.Sum.{sum, total_member, total_more, total_split, total_subset, total_range}
 use Rattle.paper_board.specs.declared.Board.{Board}
 use Rattle.paper_board.specs.Paper.View.{View, Live, Valid, Side, bound, Beyond, view, row_of}
-use Rattle.paper_board.specs.Paper.Limits.{Within, IsTime, firstMinute}
+use Rattle.paper_board.specs.Paper.Limits.{Within, IsTime, first_minute}
 use Rattle.paper_rules.specs.Paper.Rules.{energy}
 use Rattle.paper_board.specs.BoardTests.Ranges.{ranges}
 use Rattle.paper_board.specs.BoardTests.Decides.{Decides, ◌and◌, negated, holds, eq}
 use Rattle.paper_rules.specs.Inference.Infers.{Pushing}
-use Rattle.paper_board.specs.BoardTests.BoundTime.{turned-time}
-use Rattle.engine_sums.specs.RaiseExact.{times-within, bound-is}
+use Rattle.paper_board.specs.BoardTests.BoundTime.{turned_time}
+use Rattle.engine_sums.specs.RaiseExact.{times_within, bound_is}
 use Rattle.engine_findings.specs.Searched.{SideObeys}
 
 -- The valid jobs beyond j lie beyond a last one, but for some that stand apart. With all of these the last one ends by the bound of j, and
@@ -46,12 +46,12 @@ module _ (v : View) (s : Side) (j k : ℕ) (place : k < v.jobs) (obeyed : SideOb
   abbrev rest : ℕ → Bool
   rest x = S x && not (eqb k x)
 
-  is-rest : (x : ℕ) → Decides (rest x) ((S x ≡ true) × (k ≢ x))
-  is-rest x = holds (S x) and negated (eq k x)
+  is_rest : (x : ℕ) → Decides (rest x) ((S x ≡ true) × (k ≢ x))
+  is_rest x = holds (S x) and negated (eq k x)
 
-  pushes-last : (R : ℕ → Bool) → ((x : ℕ) → R x ≡ true → (S x ≡ true) × (k ≢ x)) → (x : ℕ) → R x ≡ true
+  pushes_last : (R : ℕ → Bool) → ((x : ℕ) → R x ≡ true → (S x ≡ true) × (k ≢ x)) → (x : ℕ) → R x ≡ true
       → (m +ℤ energy v R) ≤ℤ bound s (v.row k)
-  pushes-last R part x e =
+  pushes_last R part x e =
       obeyed R m
       (record {
         member = x;
@@ -64,12 +64,12 @@ module _ (v : View) (s : Side) (j k : ℕ) (place : k < v.jobs) (obeyed : SideOb
   none_rest : S k ≡ true → ((x : ℕ) → x < v.jobs → rest x ≡ false) → (m +ℤ energy v rest) ≤ℤ bound s (v.row k)
   unfolding sum
   none_rest e out =
-      let nothing = total-more 0 v.jobs rest (λ x. (v.row x).length) (omega arith) λ x _. is_false (rest x) λ i.
-      refuted (out x (p.valid x ((is-rest x).yes i).0).0) i in
+      let nothing = total_more 0 v.jobs rest (λ x. (v.row x).length) (omega arith) λ x _. is_false (rest x) λ i.
+      refuted (out x (p.valid x ((is_rest x).yes i).0).0) i in
       omega (whole, nothing, p.low k e, plus m (energy v rest))
 
   rest_under : S k ≡ true → (m +ℤ energy v rest) ≤ℤ bound s (v.row k)
-  rest_under e = ⊎_elim (λ (x, i). pushes-last rest (λ y. (is-rest y).yes) x i) (none_rest e) (some_or_none v.jobs rest)
+  rest_under e = ⊎_elim (λ (x, i). pushes_last rest (λ y. (is_rest y).yes) x i) (none_rest e) (some_or_none v.jobs rest)
 
   ends_last : pos 0 ≤ℤ (v.row k).length → (m +ℤ energy v S) ≤ℤ (bound s (v.row k) +ℤ (v.row k).length)
   ends_last long = go (S k) refl
@@ -79,11 +79,11 @@ module _ (v : View) (s : Side) (j k : ℕ) (place : k < v.jobs) (obeyed : SideOb
 
       go : (t : Bool) → S k ≡ t → (m +ℤ energy v S) ≤ℤ (bound s (v.row k) +ℤ length k)
       go true e =
-          let more = total-member v.jobs S rest length k place e (is_false (rest k) λ i. ((is-rest k).yes i).1 refl)
+          let more = total_member v.jobs S rest length k place e (is_false (rest k) λ i. ((is_rest k).yes i).1 refl)
           (λ x ne. rw (ne_eqb k x λ same. ne (sym same)) (and-true (S x))) in
           omega (whole, rest_under e, more, plus (length k) (energy v rest), plus m (energy v S), plus m (energy v rest), plus (bound s (v.row k)) (length k))
       go false e =
-          let under = pushes-last S (λ x i. (i, λ same. refuted (ap S (sym same) ∙ e) i)) p.member p.inside in
+          let under = pushes_last S (λ x i. (i, λ same. refuted (ap S (sym same) ∙ e) i)) p.member p.inside in
           omega (whole, under, plus (bound s (v.row k)) (length k))
 
 -- what stands apart adds no more than all its lengths; a set that stands apart as a whole pushes j no further
@@ -92,36 +92,36 @@ module _ (v : View) (s : Side) (j : ℕ) (l : LastEnds v s j) (obeyed : SideObey
   abbrev near : ℕ → Bool
   near x = S x && not (l.apart x)
 
-  is-near : (x : ℕ) → Decides (near x) ((S x ≡ true) × (l.apart x ≡ true → ⊥))
-  is-near x = holds (S x) and negated (holds (l.apart x))
+  is_near : (x : ℕ) → Decides (near x) ((S x ≡ true) × (l.apart x ≡ true → ⊥))
+  is_near x = holds (S x) and negated (holds (l.apart x))
 
-  near-ends : (x : ℕ) → near x ≡ true → (m +ℤ energy v near) ≤ℤ (bound s (v.row l.last) +ℤ (v.row l.last).length)
-  near-ends x e =
+  near_ends : (x : ℕ) → near x ≡ true → (m +ℤ energy v near) ≤ℤ (bound s (v.row l.last) +ℤ (v.row l.last).length)
+  near_ends x e =
       ends_last v s j l.last l.valid.0 obeyed near m
       (record {
         member = x;
         inside = e;
-        valid = λ y i. p.valid y ((is-near y).yes i).0;
-        beyond = λ y i. p.beyond y ((is-near y).yes i).0;
-        low = λ y i. p.low y ((is-near y).yes i).0;
+        valid = λ y i. p.valid y ((is_near y).yes i).0;
+        beyond = λ y i. p.beyond y ((is_near y).yes i).0;
+        low = λ y i. p.low y ((is_near y).yes i).0;
       })
-      (λ y i ne. let (w, far) = (is-near y).yes i in ⊎_elim (λ b. b) (λ a. absurd (far a)) (l.others y (p.valid y w) (p.beyond y w) ne))
+      (λ y i ne. let (w, far) = (is_near y).yes i in ⊎_elim (λ b. b) (λ a. absurd (far a)) (l.others y (p.valid y w) (p.beyond y w) ne))
       (long l.last)
 
-  last-obeys : (m +ℤ energy v S) ≤ℤ bound s (v.row j)
-  last-obeys = ⊎_elim some_near none-near (some_or_none v.jobs near)
+  last_obeys : (m +ℤ energy v S) ≤ℤ bound s (v.row j)
+  last_obeys = ⊎_elim some_near none_near (some_or_none v.jobs near)
     where
       length : ℕ → ℤ
       length x = (v.row x).length
 
       some_near : ((x : ℕ) × (near x ≡ true)) → (m +ℤ energy v S) ≤ℤ bound s (v.row j)
       some_near (x, e) =
-          let split = total-split v.jobs S l.apart length in
-          let far = total-subset v.jobs (λ k. S k && l.apart k) l.apart length (λ k _ i. (and_parts (S k) (l.apart k) i).1) (λ k _ _. long k) in
+          let split = total_split v.jobs S l.apart length in
+          let far = total_subset v.jobs (λ k. S k && l.apart k) l.apart length (λ k _ i. (and_parts (S k) (l.apart k) i).1) (λ k _ _. long k) in
           let end = bound s (v.row l.last) +ℤ length l.last in
           omega (
             whole,
-            near-ends x e,
+            near_ends x e,
             split,
             far,
             l.together,
@@ -131,34 +131,34 @@ module _ (v : View) (s : Side) (j : ℕ) (l : LastEnds v s j) (obeyed : SideObey
             plus (energy v λ k. S k && l.apart k) (energy v near),
           )
 
-      none-near : ((k : ℕ) → k < v.jobs → near k ≡ false) → (m +ℤ energy v S) ≤ℤ bound s (v.row j)
-      none-near out = l.sums S m p λ k e. is_true (l.apart k) λ far. refuted (out k (p.valid k e).0) ((is-near k).show (e, refuted far))
+      none_near : ((k : ℕ) → k < v.jobs → near k ≡ false) → (m +ℤ energy v S) ≤ℤ bound s (v.row j)
+      none_near out = l.sums S m p λ k e. is_true (l.apart k) λ far. refuted (out k (p.valid k e).0) ((is_near k).show (e, refuted far))
 
 module _ (b : Board) (h : Within b) (s : Side) (settled : (j : ℕ) → Live (view b) j → SideSettled (view b) s j) where
-  abbrev boundOf : ℕ → ℤ
-  boundOf j = bound s (row_of b j)
+  abbrev bound_of : ℕ → ℤ
+  bound_of j = bound s (row_of b j)
 
-  in-time : (j : ℕ) → IsTime (boundOf j)
-  in-time j = rw (← bound-is b s j) (turned-time s _ ((times-within b h s).time j))
+  in_time : (j : ℕ) → IsTime (bound_of j)
+  in_time j = rw (← bound_is b s j) (turned_time s _ ((times_within b h s).time j))
 
   spare : (S : ℕ → Bool) → pos 0 ≤ℤ energy (view b) S
-  spare S = (total-range b.jobs 10000 S (λ x. (row_of b x).length) (λ x. ((ranges b h x).low, (ranges b h x).high))).0
+  spare S = (total_range b.jobs 10000 S (λ x. (row_of b x).length) (λ x. ((ranges b h x).low, (ranges b h x).high))).0
 
   -- the last one's bound is less, since a valid job has a length
-  obeys-below : (n j : ℕ) → Live (view b) j → boundOf j <ℤ (firstMinute +ℤ pos n) → SideObeys (view b) s j
-  obeys-below zero j live under = absurd (omega (whole, (in-time j).low, plus firstMinute (pos 0)))
-  obeys-below (suc n) j live under = go (settled j live) (obeys-below n)
+  obeys_below : (n j : ℕ) → Live (view b) j → bound_of j <ℤ (first_minute +ℤ pos n) → SideObeys (view b) s j
+  obeys_below zero j live under = absurd (omega (whole, (in_time j).low, plus first_minute (pos 0)))
+  obeys_below (suc n) j live under = go (settled j live) (obeys_below n)
     where
-      go : SideSettled (view b) s j → ((k : ℕ) → Live (view b) k → boundOf k <ℤ (firstMinute +ℤ pos n) → SideObeys (view b) s k) → SideObeys (view b) s j
+      go : SideSettled (view b) s j → ((k : ℕ) → Live (view b) k → bound_of k <ℤ (first_minute +ℤ pos n) → SideObeys (view b) s k) → SideObeys (view b) s j
       go (inl obeyed) below S m p = obeyed S m p
       go (inr l) below S m p =
           let (place, mark) = l.valid in
           let alive : Live (view b) l.last = (place, λ e. omega arith) in
           let some-time = ((h.limits.rows l.last).live place alive.1).length.low in
-          let end = boundOf l.last +ℤ (row_of b l.last).length in
-          let less : boundOf l.last <ℤ (firstMinute +ℤ pos n) =
-          omega (whole, l.together, spare l.apart, some-time, plus (boundOf l.last) (row_of b l.last).length, plus end (energy (view b) l.apart), plus firstMinute (pos n), plus firstMinute (pos (suc n))) in
-          last-obeys (view b) s j l (below l.last alive less) (λ x. (ranges b h x).low) S m p
+          let end = bound_of l.last +ℤ (row_of b l.last).length in
+          let less : bound_of l.last <ℤ (first_minute +ℤ pos n) =
+          omega (whole, l.together, spare l.apart, some-time, plus (bound_of l.last) (row_of b l.last).length, plus end (energy (view b) l.apart), plus first_minute (pos n), plus first_minute (pos (suc n))) in
+          last_obeys (view b) s j l (below l.last alive less) (λ x. (ranges b h x).low) S m p
 
-  pub all-obeyed : (j : ℕ) → Live (view b) j → SideObeys (view b) s j
-  all-obeyed j live = obeys-below 1000001 j live (omega (whole, (in-time j).high, plus firstMinute (pos 1000001)))
+  pub all_obeyed : (j : ℕ) → Live (view b) j → SideObeys (view b) s j
+  all_obeyed j live = obeys_below 1000001 j live (omega (whole, (in_time j).high, plus first_minute (pos 1000001)))

@@ -1,9 +1,9 @@
 // The search at one job: what R4, R5 and R6 infer of its window.
 ghost use Rattle.std.specs.Prelude.{◌<◌};
-ghost use Rattle.paper_board.specs.Paper.Limits.{jobLimit};
+ghost use Rattle.paper_board.specs.Paper.Limits.{job_limit};
 ghost use Rattle.paper_board.specs.Paper.Values.{side_of};
 ghost use Rattle.engine_sums.specs.Sums.{Times, Lengths};
-ghost use Rattle.engine_findings.specs.InferredOf.{inferredOf};
+ghost use Rattle.engine_findings.specs.InferredOf.{inferred_of};
 ghost use Rattle.engine_job_rules.specs.JobSearched.{SideSearched, JobSearched};
 
 use engine_bound_beyond::bound_beyond;
@@ -24,8 +24,8 @@ fn at_side<'a>(
     opposite: &'a [u64; Board::JOBS],
     valid: u64,
 ) -> Found
-    requires { (job < jobLimit) × Times times.now × Lengths lengths.now }
-    ensures { SideSearched (side_of side) job representative times.now lengths.now beyond.now valid (inferredOf result) }
+    requires { (job < job_limit) × Times times.now × Lengths lengths.now }
+    ensures { SideSearched (side_of side) job representative times.now lengths.now beyond.now valid (inferred_of result) }
 {
     if representative != job {
         return Found::Nothing;
@@ -49,8 +49,8 @@ pub fn at_job<'a>(
     after: &'a [u64; Board::JOBS],
     valid: u64,
 ) -> Found
-    requires { (i < jobLimit) × Times earliest.now × Times latest.now × Lengths lengths.now }
-    ensures { JobSearched i early late earliest.now latest.now lengths.now before.now after.now valid (inferredOf result) }
+    requires { (i < job_limit) × Times earliest.now × Times latest.now × Lengths lengths.now }
+    ensures { JobSearched i early late earliest.now latest.now lengths.now before.now after.now valid (inferred_of result) }
 {
     let window = Window {
         earliest: earliest[i],

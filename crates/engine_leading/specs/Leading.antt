@@ -25,13 +25,13 @@ SameBut j times times' = (k : ℕ) → k ≢ j → get_or times' k (pos 0) ≡ g
 abbrev pub Lasts : Leading → ℕ → Leading → Type 0
 Lasts l j r = (s : Side) (times times' lengths : List ℤ) → Leaves s times lengths l → SameBut j times times' → Leaves s times' lengths r
 
-pub unknown-leaves : (s : Side) (times lengths : List ℤ) (l : Leading) → l.set ≡ 0 → Leaves s times lengths l
-unknown-leaves s times lengths l e some = absurd (some e)
+pub unknown_leaves : (s : Side) (times lengths : List ℤ) (l : Leading) → l.set ≡ 0 → Leaves s times lengths l
+unknown_leaves s times lengths l e some = absurd (some e)
 
 -- a sum of jobs that j is not among
-sum-elsewhere : (s : Side) (times times' lengths : List ℤ) (w j : ℕ) → bit w j ≡ false → SameBut j times times' → (z : ℤ)
+sum_elsewhere : (s : Side) (times times' lengths : List ℤ) (w j : ℕ) → bit w j ≡ false → SameBut j times times' → (z : ℤ)
     → Sum s times lengths w z → Sum s times' lengths w z
-sum-elsewhere s times times' lengths w j out same z sum =
+sum_elsewhere s times times' lengths w j out same z sum =
     record {
       set = sum.set;
       inside = sum.inside;
@@ -44,6 +44,6 @@ sum-elsewhere s times times' lengths w j out same z sum =
     stays : (k : ℕ) → sum.set k ≡ true → get_or times' k (pos 0) ≡ get_or times k (pos 0)
     stays k m = same k λ e. refuted out (subst (λ x. bit w x ≡ true) e (sum.inside k m))
 
-pub outside-lasts : (l : Leading) (j : ℕ) → bit l.set j ≡ false → Lasts l j l
-outside-lasts l j out s times times' lengths leaves same some =
-    sum-elsewhere s times times' lengths l.set j out same (turned s l.time) (leaves some)
+pub outside_lasts : (l : Leading) (j : ℕ) → bit l.set j ≡ false → Lasts l j l
+outside_lasts l j out s times times' lengths leaves same some =
+    sum_elsewhere s times times' lengths l.set j out same (turned s l.time) (leaves some)

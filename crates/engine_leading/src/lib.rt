@@ -1,8 +1,8 @@
 // A bound that valid jobs leave to those behind them, kept while it holds.
 ghost use Rattle.std.specs.Prelude.{◌≡◌, ◌≢◌, ◌<◌};
-ghost use Rattle.paper_board.specs.Paper.Limits.{jobLimit};
+ghost use Rattle.paper_board.specs.Paper.Limits.{job_limit};
 ghost use Rattle.paper_board.specs.Paper.Values.{side_of};
-ghost use Rattle.engine_sums.specs.Sums.{Times, Lengths, boundOf};
+ghost use Rattle.engine_sums.specs.Sums.{Times, Lengths, bound_of};
 ghost use Rattle.engine_bound_beyond.specs.BoundBeyond.{pushing, Says};
 ghost use Rattle.engine_leading.specs.Leading.{Leaves, LeadsTo, Lasts};
 
@@ -39,8 +39,8 @@ fn bound_left<'a>(
     valid: u64,
     order: &'a [u64; Order::WORDS],
 ) -> EnergyBound
-    requires { (job < jobLimit) × (set ≢ 0) × Times times.now × Lengths lengths.now × (set ≡ pushing beyond.now valid job) }
-    ensures { Says (side_of side) times.now lengths.now beyond.now set job (boundOf (side_of side) result) }
+    requires { (job < job_limit) × (set ≢ 0) × Times times.now × Lengths lengths.now × (set ≡ pushing beyond.now valid job) }
+    ensures { Says (side_of side) times.now lengths.now beyond.now set job (bound_of (side_of side) result) }
 {
     if order[Order::COUNT] == 0 {
         return bound_beyond(side, job, times, lengths, beyond, opposite, valid, false);
@@ -65,7 +65,7 @@ pub fn leading_to<'a>(
     valid: u64,
     order: &'a [u64; Order::WORDS],
 ) -> Leading
-    requires { (job < jobLimit) × Times times.now × Lengths lengths.now × Leaves (side_of side) times.now lengths.now known }
+    requires { (job < job_limit) × Times times.now × Lengths lengths.now × Leaves (side_of side) times.now lengths.now known }
     ensures leads_to { LeadsTo result beyond.now valid job }
     ensures leaves { Leaves (side_of side) times.now lengths.now result }
 {
@@ -88,7 +88,7 @@ pub fn leading_to<'a>(
 // What is known once a job may have moved: no bound of a set that has the job. On a board no job is in its own word, which the contract
 // doesn't ask for.
 pub fn lasting(leading: Leading, job: usize) -> Leading
-    requires { job < jobLimit }
+    requires { job < job_limit }
     ensures { Lasts leading job result }
 {
     if ground_sets::has(leading.set, job) {

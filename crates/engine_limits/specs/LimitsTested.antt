@@ -4,16 +4,16 @@ use Rattle.std.specs.Prelude.{◌≡◌, ◌≢◌, Bool, true, List, ℕ, ◌<�
 use Rattle.std.proofs.Common.{sym, ◌∙◌, arith}
 use Rattle.std.proofs.Math.Decide.{dec_lt}
 use Rattle.ground_sets.specs.Bit.{bit, width}
-use Rattle.ground_sets.specs.BitLaws.{bit-zero}
+use Rattle.ground_sets.specs.BitLaws.{bit_zero}
 use Rattle.ground_arithmetic.specs.Bools.{refuted, same_tests}
 use Rattle.paper_board.specs.declared.Board.{Board}
-use Rattle.paper_board.specs.Paper.View.{view, row_of, arcOf, arcIntoOf, Live, Arc}
-use Rattle.paper_board.specs.Paper.Limits.{jobLimit, RowLimits, Shape, Within}
-use Rattle.paper_board.specs.BoardTests.WithinLimits.{withinLimits}
-use Rattle.paper_board.specs.BoardTests.Decides.{Decides, restated, same-decision}
-use Rattle.paper_board.specs.BoardTests.LimitsDecided.{decides-limits, past, past_row}
+use Rattle.paper_board.specs.Paper.View.{view, row_of, arc_of, arc_into_of, Live, Arc}
+use Rattle.paper_board.specs.Paper.Limits.{job_limit, RowLimits, Shape, Within}
+use Rattle.paper_board.specs.BoardTests.WithinLimits.{within_limits}
+use Rattle.paper_board.specs.BoardTests.Decides.{Decides, restated, same_decision}
+use Rattle.paper_board.specs.BoardTests.LimitsDecided.{decides_limits, past, past_row}
 use Rattle.engine_agreement.specs.Agree.{Agree}
-use Rattle.engine_places.specs.Place.{row, Place, blank-limits}
+use Rattle.engine_places.specs.Place.{row, Place, blank_limits}
 
 -- what place k holds, and what every place holds
 abbrev pub PlaceAt : ℕ → List ℕ → List ℤ → List ℤ → List ℤ → List ℕ → List ℕ → ℕ → Type 0
@@ -21,7 +21,7 @@ PlaceAt n marks lengths earliest latest after before k =
     Place n k (row (get_or marks k 0) (get_or lengths k (pos 0)) (get_or earliest k (pos 0)) (get_or latest k (pos 0))) (get_or after k 0) (get_or before k 0)
 
 abbrev pub EveryPlace : ℕ → List ℕ → List ℤ → List ℤ → List ℤ → List ℕ → List ℕ → Type 0
-EveryPlace n marks lengths earliest latest after before = (k : ℕ) → k < jobLimit → PlaceAt n marks lengths earliest latest after before k
+EveryPlace n marks lengths earliest latest after before = (k : ℕ) → k < job_limit → PlaceAt n marks lengths earliest latest after before k
 
 -- ---- the board
 
@@ -35,40 +35,40 @@ module _ (b : Board) where
       below : {x : ℕ} → x < b.jobs → x < width
       below h = omega (arith, w.limits.jobs)
 
-      after : (x : ℕ) → arcOf b k x ≡ true → (k < b.jobs) × (get_or b.marks k 0 ≢ 2) × (x < width) × (k ≢ x)
+      after : (x : ℕ) → arc_of b k x ≡ true → (k < b.jobs) × (get_or b.marks k 0 ≢ 2) × (x < width) × (k ≢ x)
       after x e = let (i, j, n) = w.limits.arcs k x e in (i.0, i.1, below j.0, n)
 
-      before : (x : ℕ) → arcIntoOf b k x ≡ true → (k < b.jobs) × (get_or b.marks k 0 ≢ 2) × (x < width)
+      before : (x : ℕ) → arc_into_of b k x ≡ true → (k < b.jobs) × (get_or b.marks k 0 ≢ 2) × (x < width)
       before x e = let (i, j, n) = w.limits.arcs x k (sym (w.twice x k) ∙ e) in (j.0, j.1, below i.0)
 
-  module _ (s : Shape b) (jobs : b.jobs ≤ jobLimit) where
+  module _ (s : Shape b) (jobs : b.jobs ≤ job_limit) where
     -- a word with a member is at one of the 64 places
-    place : (words : List ℕ) → length words ≡ jobLimit → (i k : ℕ) → bit (get_or words i 0) k ≡ true → i < jobLimit
-    place words full i k e = go (dec_lt i jobLimit)
+    place : (words : List ℕ) → length words ≡ job_limit → (i k : ℕ) → bit (get_or words i 0) k ≡ true → i < job_limit
+    place words full i k e = go (dec_lt i job_limit)
       where
-        go : Dec (i < jobLimit) → i < jobLimit
+        go : Dec (i < job_limit) → i < job_limit
         go (yes l) = l
-        go (no l) = absurd (refuted (bit-zero k) (rw (past words 0 full i (omega arith)) at e))
+        go (no l) = absurd (refuted (bit_zero k) (rw (past words 0 full i (omega arith)) at e))
 
-    held-within : PlacesHeld → Agree b.after b.before → Within b
-    held-within h agree =
+    held_within : PlacesHeld → Agree b.after b.before → Within b
+    held_within h agree =
         record {
           shape = s;
           limits = record { jobs = jobs; rows = rows; arcs = arcs };
-          twice = λ i k. same_tests (arcIntoOf b k i) (arcOf b i k) (out i k) (into i k);
+          twice = λ i k. same_tests (arc_into_of b k i) (arc_of b i k) (out i k) (into i k);
         }
       where
         rows : (k : ℕ) → RowLimits b.jobs k (row_of b k)
-        rows k = go (dec_lt k jobLimit)
+        rows k = go (dec_lt k job_limit)
           where
-            go : Dec (k < jobLimit) → RowLimits b.jobs k (row_of b k)
+            go : Dec (k < job_limit) → RowLimits b.jobs k (row_of b k)
             go (yes l) = (h k l).0
-            go (no l) = blank-limits b.jobs k (row_of b k) (omega arith) (past_row b s k (omega arith))
+            go (no l) = blank_limits b.jobs k (row_of b k) (omega arith) (past_row b s k (omega arith))
 
-        into : (i k : ℕ) → arcOf b i k ≡ true → arcIntoOf b k i ≡ true
+        into : (i k : ℕ) → arc_of b i k ≡ true → arc_into_of b k i ≡ true
         into i k e = let l = place b.after s.after i k e in agree i k l ((h i l).1.0 k e).2 ∙ e
 
-        out : (i k : ℕ) → arcIntoOf b k i ≡ true → arcOf b i k ≡ true
+        out : (i k : ℕ) → arc_into_of b k i ≡ true → arc_of b i k ≡ true
         out i k e = let l = place b.before s.before k i e in sym (agree i k ((h k l).1.1 i e).2 l) ∙ e
 
         arcs : (i k : ℕ) → Arc (view b) i k → Live (view b) i × Live (view b) k × (i ≢ k)
@@ -78,8 +78,8 @@ module _ (b : Board) where
             ((li, vi), (lk, vk), n)
 
     -- tests of the places and of the agreement test the limits
-    pub limits-tested : {t : Bool} → Decides t (PlacesHeld × Agree b.after b.before) → t ≡ withinLimits b
-    limits-tested d =
-        same-decision
-        (restated d (λ h. held-within h.0 h.1) (λ w. (within_held w, λ i k li lk. w.twice i k)))
-        (decides-limits b)
+    pub limits_tested : {t : Bool} → Decides t (PlacesHeld × Agree b.after b.before) → t ≡ within_limits b
+    limits_tested d =
+        same_decision
+        (restated d (λ h. held_within h.0 h.1) (λ w. (within_held w, λ i k li lk. w.twice i k)))
+        (decides_limits b)

@@ -38,7 +38,7 @@ fn places_hold<'a>(
 
 // The board's limits, its books aside.
 pub fn within_limits(b: Board) -> bool
-    ensures { result ≡ limits.withinLimits b }
+    ensures { result ≡ limits.within_limits b }
 {
     if b.jobs > Board::JOBS {
         return false;
@@ -55,7 +55,7 @@ pub fn within_limits(b: Board) -> bool
 }
 
 pub fn books_within(books: Books) -> bool
-    ensures { result ≡ limits.booksLimits books }
+    ensures { result ≡ limits.books_limits books }
 {
     books.tally <= Board::TALLY
 }

@@ -2,7 +2,7 @@
 // their end: so the order need not be right.
 ghost use Rattle.std.specs.Prelude.{◌≡◌, ℕ, ◌<◌};
 ghost use Rattle.std.proofs.Math.Option.{none};
-ghost use Rattle.paper_board.specs.Paper.Limits.{jobLimit};
+ghost use Rattle.paper_board.specs.Paper.Limits.{job_limit};
 ghost use Rattle.paper_board.specs.Paper.Values.{side_of};
 ghost use Rattle.engine_sums.specs.Sums.{Times, Lengths, Sum, Exceeds};
 ghost use Rattle.engine_makespan.specs.Makespan.{EndInRange, Sequenced};
@@ -29,7 +29,7 @@ fn append(
     k: usize,
     earlier: Sequence,
 ) -> Sequence
-    requires { Times times.now × Lengths lengths.now × (k < jobLimit) × EndInRange lengths.now earlier.left earlier.end }
+    requires { Times times.now × Lengths lengths.now × (k < job_limit) × EndInRange lengths.now earlier.left earlier.end }
     ensures end_in_range { EndInRange lengths.now result.left result.end }
     ensures by_index { (set : ℕ) → Sequenced (side_of side) times.now lengths.now set earlier.left earlier.end → Sequenced (side_of side) times.now lengths.now set result.left result.end }
 {

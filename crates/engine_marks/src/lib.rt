@@ -1,14 +1,14 @@
 // Sets of jobs by their marks.
 ghost use Rattle.std.specs.Prelude.{◌≡◌, cond, ◌<◌, ◌≤◌};
 ghost use Rattle.ground_sets.specs.Bit.{with};
-ghost use Rattle.paper_board.specs.Paper.Limits.{jobLimit};
+ghost use Rattle.paper_board.specs.Paper.Limits.{job_limit};
 ghost use Rattle.engine_marks.specs.Marked as sets;
 
 use paper_board::Board;
 
 // The jobs with the mark.
 pub fn marked(jobs: usize, marks: &[u8; Board::JOBS], mark: u8) -> u64
-    requires { jobs ≤ jobLimit }
+    requires { jobs ≤ job_limit }
     ensures { result ≡ sets.marked jobs marks.now mark }
 {
     let mut set = 0;
@@ -22,7 +22,7 @@ pub fn marked(jobs: usize, marks: &[u8; Board::JOBS], mark: u8) -> u64
 
 // The set, and job k too where the test holds.
 fn with_tested(set: u64, k: usize, test: bool) -> u64
-    requires { k < jobLimit }
+    requires { k < job_limit }
     ensures { result ≡ cond test (with set k) set }
 {
     if test { ground_sets::with(set, k) } else { set }
@@ -36,7 +36,7 @@ pub struct Marks {
 }
 
 pub fn sets(jobs: usize, marks: &[u8; Board::JOBS]) -> Marks
-    requires { jobs ≤ jobLimit }
+    requires { jobs ≤ job_limit }
     ensures { (result.live ≡ sets.unmarked jobs marks.now 2) × (result.valid ≡ sets.marked jobs marks.now 1) }
 {
     let mut live = 0;

@@ -67,7 +67,7 @@ pub fn ordered_bound(
     order: Order,
 ) -> EnergyBound
     requires { sums.Times times.now × sums.Lengths lengths.now × Moderate floor }
-    ensures { sums.Exceeds (sums.Sum (paper.side_of side) times.now lengths.now set) (paper.turned (paper.side_of side) floor) (sums.boundOf (paper.side_of side) result) }
+    ensures { sums.Exceeds (sums.Sum (paper.side_of side) times.now lengths.now set) (paper.turned (paper.side_of side) floor) (sums.bound_of (paper.side_of side) result) }
 {
     let low = turned(side, floor);
     let sequence = in_order(side, times, lengths, set, order);

@@ -3,8 +3,8 @@ ghost use Rattle.std.specs.Prelude.{◌≡◌, not, ◌&&◌, ◌<◌, ◌+ℤ�
 ghost use Rattle.std.specs.Int.Signed.{lt_z};
 ghost use Rattle.ground_sets.specs.Bit.{bit};
 ghost use Rattle.ground_arithmetic.specs.Time.{Moderate};
-ghost use Rattle.paper_board.specs.Paper.Limits.{jobLimit};
-ghost use Rattle.engine_findings.specs.InferredOf.{inferredOf};
+ghost use Rattle.paper_board.specs.Paper.Limits.{job_limit};
+ghost use Rattle.engine_findings.specs.InferredOf.{inferred_of};
 ghost use Rattle.engine_pair_rules.specs.PairSearched.{PairSearched, PairTested, Unjoined};
 
 use engine_findings::Found;
@@ -20,7 +20,7 @@ pub fn is_late(end: i32, length: i32, latest: i32) -> bool
 
 // R2: are there arcs both ways between the valid job i and k?
 fn excludes(i: usize, k: usize, valid: u64, after: u64, before: u64) -> bool
-    requires { (i < jobLimit) × (k < jobLimit) }
+    requires { (i < job_limit) × (k < job_limit) }
     ensures { result ≡ (bit after k && bit before k && bit valid i) }
 {
     ground_sets::has(ground_sets::intersection(after, before), k) && ground_sets::has(valid, i)
@@ -28,7 +28,7 @@ fn excludes(i: usize, k: usize, valid: u64, after: u64, before: u64) -> bool
 
 // R3: has k to come before i, with no arc from k to i yet?
 fn orders(k: usize, before: u64, late: bool) -> bool
-    requires { k < jobLimit }
+    requires { k < job_limit }
     ensures { result ≡ (late && not (bit before k)) }
 {
     late && !ground_sets::has(before, k)
@@ -36,7 +36,7 @@ fn orders(k: usize, before: u64, late: bool) -> bool
 
 // R1: the jobs after the valid job k, itself after i, to which there is no arc from i yet.
 fn unjoined(i: usize, k: usize, valid: u64, after: u64, onward: u64) -> u64
-    requires { (i < jobLimit) × (k < jobLimit) }
+    requires { (i < job_limit) × (k < job_limit) }
     ensures { Unjoined i k valid after onward result }
 {
     if ground_sets::has(ground_sets::intersection(valid, after), k) {
@@ -56,7 +56,7 @@ pub fn applies(
     onward: u64,
     late: bool,
 ) -> bool
-    requires { (i < jobLimit) × (k < jobLimit) }
+    requires { (i < job_limit) × (k < job_limit) }
     ensures { PairTested i k valid after before onward late result }
 {
     if excludes(i, k, valid, after, before) {
@@ -78,8 +78,8 @@ pub fn at_pair(
     onward: u64,
     late: bool,
 ) -> Found
-    requires { (i < jobLimit) × (k < jobLimit) }
-    ensures { PairSearched i k valid after before onward late (inferredOf result) }
+    requires { (i < job_limit) × (k < job_limit) }
+    ensures { PairSearched i k valid after before onward late (inferred_of result) }
 {
     if excludes(i, k, valid, after, before) {
         return Found::Inferred(Fact::Invalid { job: k });

@@ -5,12 +5,12 @@ use Rattle.std.proofs.Math.Bool.{or-true}
 use Rattle.std.proofs.Math.Decide.{ℕ_discrete}
 use Rattle.ground_sets.specs.Bit.{bit, union, intersection, difference, without}
 use Rattle.ground_walks.specs.Takes.{Takes}
-use Rattle.ground_sets.specs.BitLaws.{bit-zero, bit-union, bit-intersection, bit-difference, bit-without, without-lt, difference-lt, subset-yes, part-below}
+use Rattle.ground_sets.specs.BitLaws.{bit_zero, bit_union, bit_intersection, bit_difference, bit_without, without_lt, difference_lt, subset_yes, part_below}
 use Rattle.ground_walks.specs.Walk.{Left, taken_out}
 use Rattle.ground_arithmetic.specs.Bools.{refuted, is_true}
 use Rattle.ground_arithmetic.specs.Linear.{whole, plus, minus}
-use Rattle.ground_arithmetic.specs.Time.{lesser, lesser-left, lesser-right}
-use Rattle.paper_board.specs.Paper.Limits.{jobLimit}
+use Rattle.ground_arithmetic.specs.Time.{lesser, lesser_left, lesser_right}
+use Rattle.paper_board.specs.Paper.Limits.{job_limit}
 use Rattle.paper_board.specs.BoardTests.Decides.{Decides, retested, ◌and◌, negated, holds, eq}
 use Rattle.engine_sums.specs.Sums.{length_at}
 
@@ -33,7 +33,7 @@ LateLeft latest lengths set end = Left (λ k. bit set k ≡ true) (InTime latest
 
 -- the members of w: jobs after i, where i or they are valid
 pub record KeptApart (i valids after w : ℕ) : Type 0 where
-  pub width : w < 2 ^ jobLimit
+  pub width : w < 2 ^ job_limit
   pub member : (k : ℕ) → bit w k ≡ true → (bit after k ≡ true) × ((bit valids i ≡ true) ⊎ (bit valids k ≡ true))
 
 -- job k ends in time after i, or has an arc to i, or lies after it and one of the two is valid
@@ -47,15 +47,15 @@ OrderLeft latest lengths i lives valids before after end =
 
 module _ (latest lengths : List ℤ) where
   -- one job more
-  pub in-time-lesser : (set : ℕ) {left k rest : ℕ} (least : ℤ) → Takes jobLimit false left k rest
+  pub in_time_lesser : (set : ℕ) {left k rest : ℕ} (least : ℤ) → Takes job_limit false left k rest
       → ((j : ℕ) → bit set j ≡ true → bit left j ≡ false → InTime latest lengths least j)
       → (j : ℕ) → bit set j ≡ true → bit rest j ≡ false
       → InTime latest lengths (lesser least (get_or latest k (pos 0) -ℤ length_at lengths k)) j
-  in-time-lesser set {k = k} least taken before =
+  in_time_lesser set {k = k} least taken before =
       taken_out taken (InTime latest lengths next) (λ j. bit set j ≡ true)
       (λ j e out. let now = before j e out in
-      omega (whole, now, lesser-left least gap, plus next (length_at lengths j), plus least (length_at lengths j)))
-      (omega (whole, lesser-right least gap, plus next (length_at lengths k), plus (get_or latest k (pos 0)) (neg_ℤ (length_at lengths k)), minus (length_at lengths k)))
+      omega (whole, now, lesser_left least gap, plus next (length_at lengths j), plus least (length_at lengths j)))
+      (omega (whole, lesser_right least gap, plus next (length_at lengths k), plus (get_or latest k (pos 0)) (neg_ℤ (length_at lengths k)), minus (length_at lengths k)))
     where
       gap : ℤ
       gap = get_or latest k (pos 0) -ℤ length_at lengths k
@@ -65,37 +65,37 @@ module _ (latest lengths : List ℤ) where
 
   module _ (i lives valids before after : ℕ) (end : ℤ) where
     -- where i ends by a time after which all end in time, nothing is left
-    pub none-ordered : (least : ℤ) → end ≤ℤ least → AllInTime latest lengths lives least
+    pub none_ordered : (least : ℤ) → end ≤ℤ least → AllInTime latest lengths lives least
         → OrderLeft latest lengths i lives valids before after end 0
-    none-ordered least l all =
+    none_ordered least l all =
         record {
-          member = λ k e. absurd (refuted (bit-zero k) e);
+          member = λ k e. absurd (refuted (bit_zero k) e);
           done = λ k (e, _) _. let now = all k e in inl (omega (whole, now, plus end (length_at lengths k), plus least (length_at lengths k)));
         }
 
     -- else those that have no arc to i and are not kept apart from it are tested
-    pub late-ordered : (kept w : ℕ) → lives < 2 ^ jobLimit → i < jobLimit → union before kept < 2 ^ jobLimit → KeptApart i valids after kept
-        → LateLeft latest lengths (difference jobLimit (without jobLimit lives i) (union before kept)) end w
+    pub late_ordered : (kept w : ℕ) → lives < 2 ^ job_limit → i < job_limit → union before kept < 2 ^ job_limit → KeptApart i valids after kept
+        → LateLeft latest lengths (difference job_limit (without job_limit lives i) (union before kept)) end w
         → OrderLeft latest lengths i lives valids before after end w
-    late-ordered kept w fits place narrow apart left =
+    late_ordered kept w fits place narrow apart left =
         record {
           member = λ k e. ((tested k).yes (left.member k e)).0;
           done = λ k l out. go k l out (bit set k) refl;
         }
       where
         set : ℕ
-        set = difference jobLimit (without jobLimit lives i) (union before kept)
+        set = difference job_limit (without job_limit lives i) (union before kept)
 
         tested : (k : ℕ) → Decides (bit set k) (((bit lives k ≡ true) × (i ≢ k)) × (bit (union before kept) k ≡ true → ⊥))
         tested k =
-            retested (bit-difference jobLimit (without jobLimit lives i) (union before kept) k (without-lt jobLimit lives i fits) narrow)
-            (retested (bit-without jobLimit lives i k fits place) (holds (bit lives k) and negated (eq i k)) and negated (holds (bit (union before kept) k)))
+            retested (bit_difference job_limit (without job_limit lives i) (union before kept) k (without_lt job_limit lives i fits) narrow)
+            (retested (bit_without job_limit lives i k fits place) (holds (bit lives k) and negated (eq i k)) and negated (holds (bit (union before kept) k)))
 
         go : (k : ℕ) → (bit lives k ≡ true) × (i ≢ k) → bit w k ≡ false → (t : Bool) → bit set k ≡ t → OrderKnown latest lengths i valids before after end k
         go k l out true e = inl (left.done k e out)
         go k l out false e =
             let has = is_true (bit (union before kept) k) λ f. refuted e ((tested k).show (l, refuted f)) in
-            inr (⊎_elim inl (λ x. inr (apart.member k x)) (or_parts (bit before k) (bit kept k) (sym (bit-union before kept k) ∙ has)))
+            inr (⊎_elim inl (λ x. inr (apart.member k x)) (or_parts (bit before k) (bit kept k) (sym (bit_union before kept k) ∙ has)))
 
 -- ---- R1
 
@@ -112,41 +112,41 @@ Reaches after set w = (x : ℕ) → bit set x ≡ true → Inside after x w ⊎ 
 
 -- a walk over the set: the jobs `left` are still to be looked at, and `all` holds the jobs after those looked at
 pub record Looked (after : List ℕ) (set left all : ℕ) : Type 0 where
-  pub width : left < 2 ^ jobLimit
+  pub width : left < 2 ^ job_limit
   pub inside : (x : ℕ) → bit left x ≡ true → bit set x ≡ true
   pub via : (x : ℕ) → bit all x ≡ true → Via after set all x
   pub done : (x : ℕ) → bit set x ≡ true → bit left x ≡ false → Inside after x all ⊎ Via after set all x
 
-pub none-looked : (after : List ℕ) (set : ℕ) → set < 2 ^ jobLimit → Looked after set set 0
-none-looked after set fits =
+pub none_looked : (after : List ℕ) (set : ℕ) → set < 2 ^ job_limit → Looked after set set 0
+none_looked after set fits =
     record {
       width = fits;
       inside = λ x e. e;
-      via = λ x e. absurd (refuted (bit-zero x) e);
+      via = λ x e. absurd (refuted (bit_zero x) e);
       done = λ x e out. absurd (refuted out e);
     }
 
 -- the least job k that is left is looked at
-module _ {after : List ℕ} {set left all k others : ℕ} (p : Looked after set left all) (taken : Takes jobLimit false left k others) (narrow : union all (get_or after k 0) < 2 ^ jobLimit) where
+module _ {after : List ℕ} {set left all k others : ℕ} (p : Looked after set left all) (taken : Takes job_limit false left k others) (narrow : union all (get_or after k 0) < 2 ^ job_limit) where
   abbrev next : ℕ
   next = union all (get_or after k 0)
 
   abbrev rest : ℕ
-  rest = difference jobLimit others next
+  rest = difference job_limit others next
 
-  fits : others < 2 ^ jobLimit
+  fits : others < 2 ^ job_limit
   fits = omega (arith, taken.falls, p.width)
 
   still : (x : ℕ) → Decides (bit rest x) (((bit left x ≡ true) × (k ≢ x)) × (bit next x ≡ true → ⊥))
   still x =
-      retested (bit-difference jobLimit others next x fits narrow)
-      (retested (ap (λ w. bit w x) taken.left ∙ bit-without jobLimit left k x p.width taken.width) (holds (bit left x) and negated (eq k x)) and negated (holds (bit next x)))
+      retested (bit_difference job_limit others next x fits narrow)
+      (retested (ap (λ w. bit w x) taken.left ∙ bit_without job_limit left k x p.width taken.width) (holds (bit left x) and negated (eq k x)) and negated (holds (bit next x)))
 
   wider : (m : ℕ) → Inside after m all → Inside after m next
-  wider m h c e = bit-union all (get_or after k 0) c ∙ rw (h c e)
+  wider m h c e = bit_union all (get_or after k 0) c ∙ rw (h c e)
 
   now : Inside after k next
-  now c e = bit-union all (get_or after k 0) c ∙ rw e (or-true (bit all c))
+  now c e = bit_union all (get_or after k 0) c ∙ rw e (or-true (bit all c))
 
   more : (x : ℕ) → Via after set all x → Via after set next x
   more x (m, i, e, h) = (m, i, e, wider m h)
@@ -154,7 +154,7 @@ module _ {after : List ℕ} {set left all k others : ℕ} (p : Looked after set 
   reached : (x : ℕ) → bit next x ≡ true → Via after set next x
   reached x e =
       ⊎_elim (λ o. more x (p.via x o)) (λ n. (k, p.inside k taken.member, n, now))
-      (or_parts (bit all x) (bit (get_or after k 0) x) (sym (bit-union all (get_or after k 0) x) ∙ e))
+      (or_parts (bit all x) (bit (get_or after k 0) x) (sym (bit_union all (get_or after k 0) x) ∙ e))
 
   passed : (x : ℕ) → bit set x ≡ true → bit rest x ≡ false → (t : Bool) → bit left x ≡ t → Dec (k ≡ x) → Inside after x next ⊎ Via after set next x
   passed x e out false d same = ⊎_elim (λ h. inl (wider x h)) (λ v. inr (more x v)) (p.done x e d)
@@ -164,14 +164,14 @@ module _ {after : List ℕ} {set left all k others : ℕ} (p : Looked after set 
   pub look : Looked after set rest next
   look =
       record {
-        width = difference-lt jobLimit _ _ fits;
+        width = difference_lt job_limit _ _ fits;
         inside = λ x e. p.inside x ((still x).yes e).0.0;
         via = reached;
         done = λ x e out. passed x e out (bit left x) refl (ℕ_discrete k x);
       }
 
-  pub look-falls : rest < left
-  look-falls = part-below rest left k (λ x e. ((still x).yes e).0.0) taken.member (λ e. ((still k).yes e).0.1 refl)
+  pub look_falls : rest < left
+  look_falls = part_below rest left k (λ x e. ((still x).yes e).0.0) taken.member (λ e. ((still k).yes e).0.1 refl)
 
 -- there are arcs from i to all jobs after m
 abbrev JoinsAll : List ℕ → ℕ → ℕ → ℕ → Type 0
@@ -186,25 +186,25 @@ abbrev pub JoinLeft : List ℕ → ℕ → ℕ → ℕ → ℕ → Type 0
 JoinLeft afters i valids after = Left (λ k. (bit after k ≡ true) × (bit valids k ≡ true)) (JoinKnown afters i valids after)
 
 module _ (afters : List ℕ) (i valids after through : ℕ) (is : through ≡ intersection after valids) where
-  through-bit : (k : ℕ) → Decides (bit through k) ((bit after k ≡ true) × (bit valids k ≡ true))
-  through-bit k = retested (ap (λ w. bit w k) is ∙ bit-intersection after valids k) (holds (bit after k) and holds (bit valids k))
+  through_bit : (k : ℕ) → Decides (bit through k) ((bit after k ≡ true) × (bit valids k ≡ true))
+  through_bit k = retested (ap (λ w. bit w k) is ∙ bit_intersection after valids k) (holds (bit after k) and holds (bit valids k))
 
-  pub none-joined : (onward : ℕ) → onward < 2 ^ jobLimit → after < 2 ^ jobLimit → i < jobLimit → Reaches afters through onward
-      → difference jobLimit (without jobLimit onward i) after ≡ 0 → JoinLeft afters i valids after 0
-  none-joined onward fits narrow place reaches empty =
+  pub none_joined : (onward : ℕ) → onward < 2 ^ job_limit → after < 2 ^ job_limit → i < job_limit → Reaches afters through onward
+      → difference job_limit (without job_limit onward i) after ≡ 0 → JoinLeft afters i valids after 0
+  none_joined onward fits narrow place reaches empty =
       record {
-        member = λ k e. absurd (refuted (bit-zero k) e);
-        done = λ k l out. ⊎_elim (λ h. inl (joins k h)) (λ (m, t, e, h). let (a, v) = (through-bit m).yes t in inr (m, a, v, e, joins m h)) (reaches k ((through-bit k).show l));
+        member = λ k e. absurd (refuted (bit_zero k) e);
+        done = λ k l out. ⊎_elim (λ h. inl (joins k h)) (λ (m, t, e, h). let (a, v) = (through_bit m).yes t in inr (m, a, v, e, joins m h)) (reaches k ((through_bit k).show l));
       }
     where
       joins : (m : ℕ) → Inside afters m onward → JoinsAll afters i after m
       joins m h c e ne =
-          subset-yes jobLimit (without jobLimit onward i) after (without-lt jobLimit onward i fits) narrow empty c
-          ((retested (bit-without jobLimit onward i c fits place) (holds (bit onward c) and negated (eq i c))).show (h c e, ne))
+          subset_yes job_limit (without job_limit onward i) after (without_lt job_limit onward i fits) narrow empty c
+          ((retested (bit_without job_limit onward i c fits place) (holds (bit onward c) and negated (eq i c))).show (h c e, ne))
 
-  pub all-joined : JoinLeft afters i valids after through
-  all-joined =
+  pub all_joined : JoinLeft afters i valids after through
+  all_joined =
       record {
-        member = λ k e. (through-bit k).yes e;
-        done = λ k l out. absurd (refuted out ((through-bit k).show l));
+        member = λ k e. (through_bit k).yes e;
+        done = λ k l out. absurd (refuted out ((through_bit k).show l));
       }

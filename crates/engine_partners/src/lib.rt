@@ -3,7 +3,7 @@ ghost use Rattle.std.specs.Prelude.{◌≡◌, ◌&&◌, ℕ, ◌<◌, pos, ◌+
 ghost use Rattle.std.specs.Int.Signed.{lt_z};
 ghost use Rattle.ground_sets.specs.Bit.{bit};
 ghost use Rattle.ground_arithmetic.specs.Time.{Moderate};
-ghost use Rattle.paper_board.specs.Paper.Limits.{jobLimit};
+ghost use Rattle.paper_board.specs.Paper.Limits.{job_limit};
 ghost use Rattle.engine_sums.specs.Sums.{Times, Lengths};
 ghost use Rattle.engine_partners.specs.Partners.{AllInTime, LateLeft, KeptApart, OrderLeft, Reaches, JoinLeft};
 ghost use Rattle.engine_partners.specs.RowRead.{RowLeft};
@@ -34,7 +34,7 @@ pub fn ends_late(
     latest: &[i32; Board::JOBS],
     lengths: &[i32; Board::JOBS],
 ) -> bool
-    requires { (k < jobLimit) × Moderate end × Times latest.now × Lengths lengths.now }
+    requires { (k < job_limit) × Moderate end × Times latest.now × Lengths lengths.now }
     ensures { result ≡ lt_z (get_or latest.now k (pos 0)) (end +ℤ get_or lengths.now k (pos 0)) }
 {
     is_late(end, lengths[k], latest[k])
@@ -58,7 +58,7 @@ fn late(set: u64, end: i32, latest: &[i32; Board::JOBS], lengths: &[i32; Board::
 
 // Of the jobs `beside`, which have an arc to or from i, those that R4 to R6 keep apart from it, since i or they are valid.
 pub fn kept_apart(i: usize, valid: u64, beside: u64) -> u64
-    requires { i < jobLimit }
+    requires { i < job_limit }
     ensures { KeptApart i valid beside result }
 {
     if ground_sets::has(valid, i) {
@@ -79,7 +79,7 @@ fn ordered(
     latest: &[i32; Board::JOBS],
     lengths: &[i32; Board::JOBS],
 ) -> u64
-    requires { (i < jobLimit) × Moderate end × Times latest.now × Lengths lengths.now × AllInTime latest.now lengths.now live least }
+    requires { (i < job_limit) × Moderate end × Times latest.now × Lengths lengths.now × AllInTime latest.now lengths.now live least }
     ensures { OrderLeft latest.now lengths.now i live valid before after end result }
 {
     if end <= least {
@@ -96,7 +96,7 @@ fn ordered(
 
 // R2: the jobs with arcs both ways to i, where it is valid.
 fn excluded(i: usize, valid: u64, before: u64, after: u64) -> u64
-    requires { i < jobLimit }
+    requires { i < job_limit }
     ensures { (k : ℕ) → bit result k ≡ (bit after k && bit before k && bit valid i) }
 {
     if ground_sets::has(valid, i) {
@@ -122,7 +122,7 @@ fn reach(set: u64, after: &[u64; Board::JOBS]) -> u64
 
 // R1: the valid jobs after i, where there is a job after them to which there is no arc from i.
 fn joined(i: usize, valid: u64, after: u64, afters: &[u64; Board::JOBS]) -> u64
-    requires { i < jobLimit }
+    requires { i < job_limit }
     ensures { JoinLeft afters.now i valid after result }
 {
     let through = ground_sets::intersection(after, valid);
@@ -146,7 +146,7 @@ pub fn partners<'a>(
     lengths: &'a [i32; Board::JOBS],
     afters: &'a [u64; Board::JOBS],
 ) -> u64
-    requires { (i < jobLimit) × Moderate end × Times latest.now × Lengths lengths.now × AllInTime latest.now lengths.now live least }
+    requires { (i < job_limit) × Moderate end × Times latest.now × Lengths lengths.now × AllInTime latest.now lengths.now live least }
     ensures { RowLeft i live valid before after end latest.now lengths.now afters.now result }
 {
     let late = ordered(i, live, valid, before, after, end, least, latest, lengths);

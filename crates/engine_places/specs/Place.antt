@@ -4,15 +4,15 @@ use Rattle.std.proofs.Common.{sym, ap, ◌∙◌, arith, eq-eqb}
 use Rattle.std.proofs.Math.Bool.{true}
 use Rattle.std.proofs.Math.Decide.{dec_lt}
 use Rattle.ground_sets.specs.Bit.{bit, width, union}
-use Rattle.ground_sets.specs.BitLaws.{bit-zero, bit_high, bit-ext, union-none}
+use Rattle.ground_sets.specs.BitLaws.{bit_zero, bit_high, bit_ext, union_none}
 use Rattle.ground_arithmetic.specs.Bools.{refuted, is_false}
 use Rattle.ground_arithmetic.specs.Linear.{whole}
 use Rattle.paper_board.specs.Paper.View.{Row}
-use Rattle.paper_board.specs.Paper.Limits.{zeroRow, RowLimits}
-use Rattle.paper_board.specs.Paper.Tests.{between, isLength, isTime}
-use Rattle.paper_board.specs.BoardTests.WithinLimits.{isZero, isZeroRow, fits}
-use Rattle.paper_board.specs.BoardTests.Decides.{Decides, restated, same-decision, holds, negated, ◌and◌, eq}
-use Rattle.paper_board.specs.BoardTests.LimitsDecided.{decides-between, decides-zero, decides-fits, decides-zeroRow}
+use Rattle.paper_board.specs.Paper.Limits.{zero_row, RowLimits}
+use Rattle.paper_board.specs.Paper.Tests.{between, is_length, is_time}
+use Rattle.paper_board.specs.BoardTests.WithinLimits.{is_zero, is_zero_row, fits}
+use Rattle.paper_board.specs.BoardTests.Decides.{Decides, restated, same_decision, holds, negated, ◌and◌, eq}
+use Rattle.paper_board.specs.BoardTests.LimitsDecided.{decides_between, decides_zero, decides_fits, decides_zero_row}
 
 -- ---- rows
 
@@ -20,43 +20,43 @@ abbrev pub row : ℕ → ℤ → ℤ → ℤ → Row
 row m l e d = record { mark = m; length = l; earliest = e; latest = d }
 
 -- the test of 0 as the code makes it
-pub zero-between : (z : ℤ) → between (pos 0) (pos 0) z ≡ isZero z
-zero-between z =
-    same-decision (restated (decides-between (pos 0) (pos 0) z) (λ h. omega whole) (λ h. omega whole)) (decides-zero z)
+pub zero_between : (z : ℤ) → between (pos 0) (pos 0) z ≡ is_zero z
+zero_between z =
+    same_decision (restated (decides_between (pos 0) (pos 0) z) (λ h. omega whole) (λ h. omega whole)) (decides_zero z)
 
-pub blank-limits : (n k : ℕ) (r : Row) → n ≤ k → r ≡ zeroRow 0 → RowLimits n k r
-blank-limits n k r l e =
+pub blank_limits : (n k : ℕ) (r : Row) → n ≤ k → r ≡ zero_row 0 → RowLimits n k r
+blank_limits n k r l e =
     let mark = ap (λ (x : Row). x.mark) e in
     record { mark = omega arith; live = λ x. absurd (omega arith); invalid = λ x. absurd (omega arith); blank = λ x. e }
 
 module _ (n k m : ℕ) (l e d : ℤ) where
   -- what the tests of a row's numbers decide
-  zeros : Decides (isZero l && isZero e && isZero d) (row m l e d ≡ zeroRow m)
-  unfolding isZeroRow
-  zeros = rw (eq-eqb m m refl) at (decides-zeroRow m (row m l e d))
+  zeros : Decides (is_zero l && is_zero e && is_zero d) (row m l e d ≡ zero_row m)
+  unfolding is_zero_row
+  zeros = rw (eq-eqb m m refl) at (decides_zero_row m (row m l e d))
 
-  row-blank : n ≤ k → m ≡ 0 → Decides (isZero l && isZero e && isZero d) (RowLimits n k (row m l e d))
-  row-blank p z =
+  row_blank : n ≤ k → m ≡ 0 → Decides (is_zero l && is_zero e && is_zero d) (RowLimits n k (row m l e d))
+  row_blank p z =
       restated zeros
-      (λ h. blank-limits n k (row m l e d) p (h ∙ ap zeroRow z))
-      (λ h. h.blank p ∙ ap zeroRow (sym z))
+      (λ h. blank_limits n k (row m l e d) p (h ∙ ap zero_row z))
+      (λ h. h.blank p ∙ ap zero_row (sym z))
 
-  row-invalid : k < n → m ≡ 2 → Decides (isZero l && isZero e && isZero d) (RowLimits n k (row m l e d))
-  row-invalid p z =
+  row_invalid : k < n → m ≡ 2 → Decides (is_zero l && is_zero e && is_zero d) (RowLimits n k (row m l e d))
+  row_invalid p z =
       restated zeros
       (λ h.
       record {
         mark = omega arith;
         live = λ x ne. absurd (ne z);
-        invalid = λ x y. h ∙ ap zeroRow z;
+        invalid = λ x y. h ∙ ap zero_row z;
         blank = λ x. absurd (omega arith);
       })
-      (λ h. h.invalid p z ∙ ap zeroRow (sym z))
+      (λ h. h.invalid p z ∙ ap zero_row (sym z))
 
-  row-live : k < n → m < 2 → Decides (isLength l && isTime e && isTime d) (RowLimits n k (row m l e d))
+  row_live : k < n → m < 2 → Decides (is_length l && is_time e && is_time d) (RowLimits n k (row m l e d))
   unfolding fits
-  row-live p z =
-      restated (decides-fits (row m l e d))
+  row_live p z =
+      restated (decides_fits (row m l e d))
       (λ h.
       record {
         mark = omega arith;
@@ -83,22 +83,22 @@ member_below n w x l e = go (dec_lt x n)
     go (no h) = absurd (refuted (bit_high n w x l (omega arith)) e)
 
 module _ (n k m after before : ℕ) where
-  decides-none : (k < n → m ≢ 2 → ⊥) → Decides (eqb (union after before) 0) (PlaceArcs n k m after before)
+  decides_none : (k < n → m ≢ 2 → ⊥) → Decides (eqb (union after before) 0) (PlaceArcs n k m after before)
   unfolding union
-  decides-none dead = restated (eq (union after before) 0) none λ (a, b).
+  decides_none dead = restated (eq (union after before) 0) none λ (a, b).
       rw (empty after (λ x e. let (l, v, w, s) = a x e in dead l v), empty before (λ x e. let (l, v, w) = b x e in dead l v))
     where
       out : (word : ℕ) → word ≡ 0 → (x : ℕ) → bit word x ≡ true → ⊥
-      out word z x e = refuted (bit-zero x) (rw z at e)
+      out word z x e = refuted (bit_zero x) (rw z at e)
 
       none : union after before ≡ 0 → PlaceArcs n k m after before
-      none e = let (a, b) = union-none after before e in (λ x h. absurd (out after a x h), λ x h. absurd (out before b x h))
+      none e = let (a, b) = union_none after before e in (λ x h. absurd (out after a x h), λ x h. absurd (out before b x h))
 
       empty : (word : ℕ) → ((x : ℕ) → bit word x ≡ true → ⊥) → word ≡ 0
-      empty word h = bit-ext word 0 λ x. is_false (bit word x) (h x) ∙ sym (bit-zero x)
+      empty word h = bit_ext word 0 λ x. is_false (bit word x) (h x) ∙ sym (bit_zero x)
 
-  decides-own : k < n → m ≢ 2 → after < 2 ^ width → before < 2 ^ width → Decides (not (bit after k)) (PlaceArcs n k m after before)
-  decides-own l v fa fb =
+  decides_own : k < n → m ≢ 2 → after < 2 ^ width → before < 2 ^ width → Decides (not (bit after k)) (PlaceArcs n k m after before)
+  decides_own l v fa fb =
       restated (negated (holds (bit after k)))
       (λ own. (λ x e. (l, v, member_below width after x fa e, λ s. own (ap (bit after) s ∙ e)), λ x e. (l, v, member_below width before x fb e)))
       (λ (a, b) e. (a k e).3 refl)
@@ -106,23 +106,23 @@ module _ (n k m after before : ℕ) where
 -- ---- places
 
 -- the tests of a place without a live job, and with one
-abbrev pub isZeroPlace : ℤ → ℤ → ℤ → ℕ → ℕ → Bool
-isZeroPlace l e d after before = (isZero l && isZero e && isZero d) && eqb (union after before) 0
+abbrev pub is_zero_place : ℤ → ℤ → ℤ → ℕ → ℕ → Bool
+is_zero_place l e d after before = (is_zero l && is_zero e && is_zero d) && eqb (union after before) 0
 
-abbrev pub isLivePlace : ℕ → ℤ → ℤ → ℤ → ℕ → Bool
-isLivePlace k l e d after = (isLength l && isTime e && isTime d) && not (bit after k)
+abbrev pub is_live_place : ℕ → ℤ → ℤ → ℤ → ℕ → Bool
+is_live_place k l e d after = (is_length l && is_time e && is_time d) && not (bit after k)
 
 abbrev pub Place : ℕ → ℕ → Row → ℕ → ℕ → Type 0
 Place n k r after before = RowLimits n k r × PlaceArcs n k r.mark after before
 
 -- a place without a job, with an invalid job, and with a live one
 module _ (n k m : ℕ) (l e d : ℤ) (after before : ℕ) where
-  pub place-blank : n ≤ k → m ≡ 0 → Decides (isZeroPlace l e d after before) (Place n k (row m l e d) after before)
-  place-blank p z = row-blank n k m l e d p z and decides-none n k m after before (λ x v. omega arith)
+  pub place_blank : n ≤ k → m ≡ 0 → Decides (is_zero_place l e d after before) (Place n k (row m l e d) after before)
+  place_blank p z = row_blank n k m l e d p z and decides_none n k m after before (λ x v. omega arith)
 
-  pub place-invalid : k < n → m ≡ 2 → Decides (isZeroPlace l e d after before) (Place n k (row m l e d) after before)
-  place-invalid p z = row-invalid n k m l e d p z and decides-none n k m after before (λ x v. v z)
+  pub place_invalid : k < n → m ≡ 2 → Decides (is_zero_place l e d after before) (Place n k (row m l e d) after before)
+  place_invalid p z = row_invalid n k m l e d p z and decides_none n k m after before (λ x v. v z)
 
-  pub place-live : after < 2 ^ width → before < 2 ^ width → k < n → m < 2
-      → Decides (isLivePlace k l e d after) (Place n k (row m l e d) after before)
-  place-live fa fb p z = row-live n k m l e d p z and decides-own n k m after before p (λ x. omega arith) fa fb
+  pub place_live : after < 2 ^ width → before < 2 ^ width → k < n → m < 2
+      → Decides (is_live_place k l e d after) (Place n k (row m l e d) after before)
+  place_live fa fb p z = row_live n k m l e d p z and decides_own n k m after before p (λ x. omega arith) fa fb

@@ -3,7 +3,7 @@
 ghost use Rattle.std.specs.Prelude.{◌≡◌, List, ℕ, ◌<◌};
 ghost use Rattle.ground_sets.specs.Bit.{union};
 ghost use Rattle.ground_arithmetic.specs.Time.{Moderate};
-ghost use Rattle.paper_board.specs.Paper.Limits.{jobLimit};
+ghost use Rattle.paper_board.specs.Paper.Limits.{job_limit};
 ghost use Rattle.paper_board.specs.Paper.Values.{side_of};
 ghost use Rattle.engine_sums.specs.Sums.{Times, Lengths};
 ghost use Rattle.engine_leading.specs.Leading.{Leaves, LeadsTo, SameBut};
@@ -62,7 +62,7 @@ fn unmoved() -> Pushed
 
 // A job that moved. A valid one moves what is on its other side.
 fn moved(job: usize, valid: u64, opposite: u64) -> Pushed
-    requires { job < jobLimit }
+    requires { job < job_limit }
     ensures { result.stuck ≡ 0 }
 {
     let next = if ground_sets::has(valid, job) {
@@ -98,7 +98,7 @@ fn push_job<'a>(
     opposite: &'a [u64; Board::JOBS],
     valid: u64,
 ) -> Pushed
-    requires { (job < jobLimit) × Times times.old × Times fixed.now × Lengths lengths.now × Leaves (side_of side) times.old lengths.now leading }
+    requires { (job < job_limit) × Times times.old × Times fixed.now × Lengths lengths.now × Leaves (side_of side) times.old lengths.now leading }
     ensures times { Times times.new × SameBut job times.old times.new }
     ensures by_index { (beyond : List ℕ) → LeadsTo leading beyond valid job → windows.Raises (side_of side) (windows.PrecedenceRead (side_of side) fixed.now lengths.now beyond valid) times.old times.new }
     ensures by_index_2 { (beyond : List ℕ) → LeadsTo leading beyond valid job → windows.Shuts (side_of side) (windows.PrecedenceRead (side_of side) fixed.now lengths.now beyond valid) times.old result.stuck }

@@ -4,16 +4,16 @@ use Rattle.std.specs.Prelude.{◌≡◌, List, ◌≢◌, true, ℕ, ◌<◌, �
 use Rattle.std.proofs.Common.{ap, ◌∙◌, arith}
 use Rattle.std.proofs.Math.Option.{Option, none, some}
 use Rattle.ground_sets.specs.Bit.{bit, difference}
-use Rattle.ground_sets.specs.BitLaws.{bit-difference, part-at-most}
+use Rattle.ground_sets.specs.BitLaws.{bit_difference, part_at_most}
 use Rattle.ground_walks.specs.Walk.{Left}
 use Rattle.ground_arithmetic.specs.Bools.{is_false, refuted}
 use Rattle.ground_arithmetic.specs.Time.{Moderate}
 use Rattle.paper_board.specs.declared.Board.{Board}
 use Rattle.paper_board.specs.Paper.View.{View, Live, Side, view}
 use Rattle.paper_board.specs.Paper.Facts.{Fact}
-use Rattle.paper_board.specs.Paper.Limits.{jobLimit, Within}
+use Rattle.paper_board.specs.Paper.Limits.{job_limit, Within}
 use Rattle.paper_board.specs.Paper.Tests.{live}
-use Rattle.paper_board.specs.BoardTests.Decides.{Decides, retested, ◌and◌, negated, holds, live-is}
+use Rattle.paper_board.specs.BoardTests.Decides.{Decides, retested, ◌and◌, negated, holds, live_is}
 use Rattle.paper_rules.specs.Inference.Infers.{Obeys}
 use Rattle.engine_job_rules.specs.JobSearched.{JobRead, JobSettled}
 use Rattle.engine_job_rules.specs.JobSearched as jobs
@@ -22,7 +22,7 @@ use Rattle.engine_job_rules.specs.SideSettled.{SideSettled}
 use Rattle.engine_search.specs.declared.Pair.{Pair}
 use Rattle.engine_search.specs.declared.Pair.TheVariants.{None, At}
 use Rattle.engine_partners.specs.RowRead.{RowRead}
-use Rattle.engine_partners.specs.PairSettled.{PairsSettled, RowSettled, pairs-settled-obey}
+use Rattle.engine_partners.specs.PairSettled.{PairsSettled, RowSettled, pairs_settled_obey}
 
 -- the numbers and words are those of the board, `lives` and `valids` its live jobs and its valid jobs
 pub record BoardRead (b : Board) (lives valids : ℕ) (earliest latest lengths : List ℤ) (before after : List ℕ) : Type 0 where
@@ -36,8 +36,8 @@ ReadSearched Q lives valids earliest latest lengths before after o =
 
 -- i and k are places of jobs, and on any board that these are read from two live jobs that don't obey the rules
 pub record AppliesAt (lives valids : ℕ) (earliest latest lengths : List ℤ) (before after : List ℕ) (i k : ℕ) : Type 0 where
-  pub first : i < jobLimit
-  pub second : k < jobLimit
+  pub first : i < job_limit
+  pub second : k < job_limit
   pub applies : (b : Board) → BoardRead b lives valids earliest latest lengths before after
       → (PairObeys (view b) i k → ⊥) × Live (view b) i × (Live (view b) k × (i ≢ k))
 
@@ -53,9 +53,9 @@ pub record EarliestEnd (earliest lengths : List ℤ) (i : ℕ) (end : ℤ) : Typ
   pub moderate : Moderate end
 
 -- what is said where nothing is found, in other words
-pub searched-with : (v : View) (P Q : Type 0) → (P → Q) → (o : Option Fact) → Searched v P o → Searched v Q o
-searched-with v P Q f none h = f h
-searched-with v P Q f (some _) h = h
+pub searched_with : (v : View) (P Q : Type 0) → (P → Q) → (o : Option Fact) → Searched v P o → Searched v Q o
+searched_with v P Q f none h = f h
+searched_with v P Q f (some _) h = h
 
 -- the rows that are left
 abbrev pub RowsLeft : View → ℕ → Type 0
@@ -69,24 +69,24 @@ abbrev pub JobsLeft : View → ℕ → Type 0
 JobsLeft v = Left (Live v) (JobSettled v)
 
 module _ {b : Board} {lives valids : ℕ} {earliest latest lengths : List ℤ} {before after : List ℕ} (h : BoardRead b lives valids earliest latest lengths before after)
-    (width : lives < 2 ^ jobLimit) where
-  live-bit : (x : ℕ) → Decides (bit lives x) (Live (view b) x)
-  live-bit x = retested (h.is_live x) (live-is (view b) x)
+    (width : lives < 2 ^ job_limit) where
+  live_bit : (x : ℕ) → Decides (bit lives x) (Live (view b) x)
+  live_bit x = retested (h.is_live x) (live_is (view b) x)
 
   -- at first all live jobs are left
   pub all_left : (Q : ℕ → Type 0) → Left (Live (view b)) Q lives
   all_left Q =
       record {
-        member = λ x e. (live-bit x).yes e;
-        done = λ x l e. absurd (refuted e ((live-bit x).show l));
+        member = λ x e. (live_bit x).yes e;
+        done = λ x l e. absurd (refuted e ((live_bit x).show l));
       }
 
   -- the live jobs that are left no more are settled
-  pub done-settled : {left done : ℕ} → JobsLeft (view b) left → done ≡ difference jobLimit lives left
+  pub done_settled : {left done : ℕ} → JobsLeft (view b) left → done ≡ difference job_limit lives left
       → (s : Side) (x : ℕ) → bit done x ≡ true → SideSettled (view b) s x
-  done-settled {left} {done} jobs e s x member =
-      let fits : left < 2 ^ jobLimit = omega (arith, width, part-at-most left lives λ y m. (live-bit y).show (jobs.member y m)) in
-      let visited = retested (ap (λ w. bit w x) e ∙ bit-difference jobLimit lives left x width fits) (live-bit x and negated (holds (bit left x))) in
+  done_settled {left} {done} jobs e s x member =
+      let fits : left < 2 ^ job_limit = omega (arith, width, part_at_most left lives λ y m. (live_bit y).show (jobs.member y m)) in
+      let visited = retested (ap (λ w. bit w x) e ∙ bit_difference job_limit lives left x width fits) (live_bit x and negated (holds (bit left x))) in
       let (live, out) = visited.yes member in
       (jobs.done x live (is_false (bit left x) out)).settled s
 
@@ -101,16 +101,16 @@ row_read h i live end e =
       within = a.within;
       here = live;
       is_live = h.is_live;
-      is-valid = a.is-valid;
-      is-before = ap (λ ws. get_or ws i 0) a.is-before;
-      is-after = ap (λ ws. get_or ws i 0) a.is-after;
-      is-end = rw (a.is-earliest, a.is-lengths) at e;
-      is-latest = a.is-latest;
-      is-lengths = a.is-lengths;
-      is-afters = a.is-after;
+      is_valid = a.is-valid;
+      is_before = ap (λ ws. get_or ws i 0) a.is-before;
+      is_after = ap (λ ws. get_or ws i 0) a.is-after;
+      is_end = rw (a.is-earliest, a.is-lengths) at e;
+      is_latest = a.is-latest;
+      is_lengths = a.is-lengths;
+      is_afters = a.is-after;
     }
 
 -- where the pairs are settled, what is found at the jobs is found in the whole view
-pub jobs-searched : (b : Board) → Within b → PairsSettled (view b) → (o : Option Fact)
+pub jobs_searched : (b : Board) → Within b → PairsSettled (view b) → (o : Option Fact)
     → Searched (view b) (JobsSettled (view b)) o → Searched (view b) (Obeys (view b)) o
-jobs-searched b h pairs = searched-with (view b) _ _ λ settled. pairs-settled-obey b h pairs (jobs.jobs-settled-obey b h settled)
+jobs_searched b h pairs = searched_with (view b) _ _ λ settled. pairs_settled_obey b h pairs (jobs.jobs_settled_obey b h settled)

@@ -6,26 +6,26 @@ use Rattle.paper_board.specs.declared.Board.{Board}
 use Rattle.paper_board.specs.Paper.View.{early, late}
 use Rattle.paper_board.specs.Paper.Limits.{Within}
 use Rattle.engine_sums.specs.Sums.{Times, Lengths}
-use Rattle.engine_sums.specs.RaiseExact.{times-within, lengths-within}
-use Rattle.engine_marks.specs.Marked.{marked, unmarked, bit-valid, bit-live}
+use Rattle.engine_sums.specs.RaiseExact.{times_within, lengths_within}
+use Rattle.engine_marks.specs.Marked.{marked, unmarked, bit_valid, bit_live}
 use Rattle.engine_search.specs.PairsWalk.{BoardRead}
 
 module _ (b : Board) (h : Within b) where
-  pub arrays-hold : Times b.earliest × Times b.latest × Lengths b.lengths
-  arrays-hold = (times-within b h early, times-within b h late, lengths-within b h)
+  pub arrays_hold : Times b.earliest × Times b.latest × Lengths b.lengths
+  arrays_hold = (times_within b h early, times_within b h late, lengths_within b h)
 
-  pub board-read : {lives valids : ℕ} → lives ≡ unmarked b.jobs b.marks 2 → valids ≡ marked b.jobs b.marks 1
+  pub board_read : {lives valids : ℕ} → lives ≡ unmarked b.jobs b.marks 2 → valids ≡ marked b.jobs b.marks 1
       → BoardRead b lives valids b.earliest b.latest b.lengths b.before b.after
-  board-read is_live is-valid =
+  board_read is_live is_valid =
       record {
-        is_live = λ x. ap (λ w. bit w x) is_live ∙ bit-live b x;
+        is_live = λ x. ap (λ w. bit w x) is_live ∙ bit_live b x;
         arrays = record {
           within = h;
-          is-earliest = refl;
-          is-latest = refl;
-          is-lengths = refl;
-          is-before = refl;
-          is-after = refl;
-          is-valid = λ x. ap (λ w. bit w x) is-valid ∙ bit-valid b x;
+          is_earliest = refl;
+          is_latest = refl;
+          is_lengths = refl;
+          is_before = refl;
+          is_after = refl;
+          is_valid = λ x. ap (λ w. bit w x) is_valid ∙ bit_valid b x;
         };
       }

@@ -1,9 +1,9 @@
 // "for every ordered pair of two live jobs": the first inference that the board doesn't show yet, if any.
 ghost use Rattle.std.specs.Prelude.{◌<◌};
-ghost use Rattle.paper_board.specs.Paper.Limits.{jobLimit};
+ghost use Rattle.paper_board.specs.Paper.Limits.{job_limit};
 ghost use Rattle.paper_rules.specs.Inference.Infers.{Obeys};
 ghost use Rattle.engine_sums.specs.Sums.{Times, Lengths};
-ghost use Rattle.engine_findings.specs.InferredOf.{inferredOf};
+ghost use Rattle.engine_findings.specs.InferredOf.{inferred_of};
 ghost use Rattle.engine_partners.specs.PairSettled.{PairsSettled};
 ghost use Rattle.engine_search.specs.PairsWalk.{ReadSearched, EarliestEnd, PairFound, JobsSettled};
 
@@ -24,7 +24,7 @@ enum Pair {
 
 // When a job ends that starts at its earliest.
 fn earliest_end(i: usize, earliest: &[i32; Board::JOBS], lengths: &[i32; Board::JOBS]) -> i32
-    requires { (i < jobLimit) × Times earliest.now × Lengths lengths.now }
+    requires { (i < job_limit) × Times earliest.now × Lengths lengths.now }
     ensures { EarliestEnd earliest.now lengths.now i result }
 {
     ground_arithmetic::sum(earliest[i], lengths[i])
@@ -81,7 +81,7 @@ fn at_pairs<'a>(
     after: &'a [u64; Board::JOBS],
 ) -> Found
     requires { Times earliest.now × Times latest.now × Lengths lengths.now }
-    ensures { ReadSearched PairsSettled live valid earliest.now latest.now lengths.now before.now after.now (inferredOf result) }
+    ensures { ReadSearched PairsSettled live valid earliest.now latest.now lengths.now before.now after.now (inferred_of result) }
 {
     let pair = find_pair(live, valid, earliest, latest, lengths, before, after);
     let Pair::At(i, k) = pair else {
@@ -104,7 +104,7 @@ fn at_jobs<'a>(
     after: &'a [u64; Board::JOBS],
 ) -> Found
     requires { Times earliest.now × Times latest.now × Lengths lengths.now }
-    ensures { ReadSearched JobsSettled live valid earliest.now latest.now lengths.now before.now after.now (inferredOf result) }
+    ensures { ReadSearched JobsSettled live valid earliest.now latest.now lengths.now before.now after.now (inferred_of result) }
 {
     let mut left = live;
     let mut early = 0;
@@ -137,7 +137,7 @@ pub fn find<'a>(
     after: &'a [u64; Board::JOBS],
 ) -> Found
     requires { Times earliest.now × Times latest.now × Lengths lengths.now }
-    ensures { ReadSearched Obeys live valid earliest.now latest.now lengths.now before.now after.now (inferredOf result) }
+    ensures { ReadSearched Obeys live valid earliest.now latest.now lengths.now before.now after.now (inferred_of result) }
 {
     let pairs = at_pairs(live, valid, earliest, latest, lengths, before, after);
     if let Found::Inferred(fact) = pairs {

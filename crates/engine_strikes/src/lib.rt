@@ -1,7 +1,7 @@
 // Jobs struck out: what makes them invalid, all of a set at once.
 ghost use Rattle.std.specs.Prelude.{◌≡◌, ◌<◌, ◌≤◌};
 ghost use Rattle.paper_board.specs.declared.Board as boards;
-ghost use Rattle.paper_board.specs.Paper.Limits.{jobLimit};
+ghost use Rattle.paper_board.specs.Paper.Limits.{job_limit};
 ghost use Rattle.paper_rules.specs.Update.Updates as updates;
 ghost use Rattle.paper_rules.specs.Update.Strike as struck;
 ghost use Rattle.paper_rules.specs.Update.ArraysWithin.{filled, Alters};
@@ -19,8 +19,8 @@ fn strike_at(
     set: u64,
     k: usize,
 )
-    requires { k < jobLimit }
-    ensures { (b : boards.Board) → filled b lengths.new earliest.new latest.new marks.new after.new before.new ≡ struck.strikeAt (filled b lengths.old earliest.old latest.old marks.old after.old before.old) set k }
+    requires { k < job_limit }
+    ensures { (b : boards.Board) → filled b lengths.new earliest.new latest.new marks.new after.new before.new ≡ struck.strike_at (filled b lengths.old earliest.old latest.old marks.old after.old before.old) set k }
 {
     if ground_sets::has(set, k) {
         lengths[k] = 0;
@@ -46,7 +46,7 @@ pub fn strike(
     before: &mut [u64; Board::JOBS],
     set: u64,
 )
-    requires { jobs ≤ jobLimit }
+    requires { jobs ≤ job_limit }
     ensures { (b : boards.Board) → b.jobs ≡ jobs → filled b lengths.new earliest.new latest.new marks.new after.new before.new ≡ struck.strike (filled b lengths.old earliest.old latest.old marks.old after.old before.old) set }
 {
     for k in 0..jobs {
@@ -65,7 +65,7 @@ pub fn exclude(
     before: &mut [u64; Board::JOBS],
     job: usize,
 ) -> bool
-    requires { (jobs ≤ jobLimit) × (job < jobs) }
+    requires { (jobs ≤ job_limit) × (job < jobs) }
     ensures { Alters jobs (λ c. updates.exclude c job) lengths.old earliest.old latest.old marks.old after.old before.old result lengths.new earliest.new latest.new marks.new after.new before.new }
 {
     let mark = marks[job];

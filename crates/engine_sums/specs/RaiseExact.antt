@@ -6,10 +6,10 @@ use Rattle.std.proofs.Common.{arith}
 use Rattle.ground_sets.specs.Bit.{bit}
 use Rattle.ground_arithmetic.specs.Bools.{is_false}
 use Rattle.ground_arithmetic.specs.Linear.{whole, plus, minus}
-use Rattle.ground_arithmetic.specs.Sum.{total, total-more}
+use Rattle.ground_arithmetic.specs.Sum.{total, total_more}
 use Rattle.paper_board.specs.declared.Board.{Board}
 use Rattle.paper_board.specs.Paper.View.{View, Valid, Arc, Side, early, late, bound, Beyond, view, row_of}
-use Rattle.paper_board.specs.Paper.Limits.{Within, jobLimit}
+use Rattle.paper_board.specs.Paper.Limits.{Within, job_limit}
 use Rattle.paper_rules.specs.Paper.Rules.{D, energy}
 use Rattle.paper_rules.specs.Paper.Energy.{SumR4, DifferenceR5}
 use Rattle.paper_board.specs.BoardTests.Decides.{Decides}
@@ -17,71 +17,71 @@ use Rattle.paper_board.specs.BoardTests.Ranges.{ranges}
 use Rattle.engine_sums.specs.declared.EnergyBound.{EnergyBound}
 use Rattle.engine_sums.specs.declared.EnergyBound.TheVariants.{Unbounded, At}
 use Rattle.paper_rules.specs.Inference.SumBeyond.{SumBeyond}
-use Rattle.engine_sums.specs.Sums.{bound_at, length_at, Times, Lengths, Sum, Exceeds, boundOf}
+use Rattle.engine_sums.specs.Sums.{bound_at, length_at, Times, Lengths, Sum, Exceeds, bound_of}
 
 -- ---- a board's numbers
 
 -- a board's bounds on side s, as the times that it keeps
-abbrev pub timesOf : Board → Side → List ℤ
-timesOf b early = b.earliest
-timesOf b late = b.latest
+abbrev pub times_of : Board → Side → List ℤ
+times_of b early = b.earliest
+times_of b late = b.latest
 
-pub times-within : (b : Board) → Within b → (s : Side) → Times (timesOf b s)
-times-within b h early = record { time = λ k. (ranges b h k).earliest }
-times-within b h late = record { time = λ k. (ranges b h k).latest }
+pub times_within : (b : Board) → Within b → (s : Side) → Times (times_of b s)
+times_within b h early = record { time = λ k. (ranges b h k).earliest }
+times_within b h late = record { time = λ k. (ranges b h k).latest }
 
-pub lengths-within : (b : Board) → Within b → Lengths b.lengths
-lengths-within b h = record { low = λ k. (ranges b h k).low; high = λ k. (ranges b h k).high }
+pub lengths_within : (b : Board) → Within b → Lengths b.lengths
+lengths_within b h = record { low = λ k. (ranges b h k).low; high = λ k. (ranges b h k).high }
 
-pub bound-is : (b : Board) (s : Side) (k : ℕ) → bound_at s (timesOf b s) k ≡ bound s (row_of b k)
-bound-is b early k = refl
-bound-is b late k = refl
+pub bound_is : (b : Board) (s : Side) (k : ℕ) → bound_at s (times_of b s) k ≡ bound s (row_of b k)
+bound_is b early k = refl
+bound_is b late k = refl
 
 -- valid jobs are jobs of the board, so there is nothing to add past them
-pub energy-is : (b : Board) → Within b → (S : ℕ → Bool) → ((k : ℕ) → S k ≡ true → Valid (view b) k)
-    → total jobLimit S (length_at b.lengths) ≡ energy (view b) S
-energy-is b h S valid = total-more b.jobs jobLimit S (length_at b.lengths) h.limits.jobs λ k l. is_false _ λ e.
+pub energy_is : (b : Board) → Within b → (S : ℕ → Bool) → ((k : ℕ) → S k ≡ true → Valid (view b) k)
+    → total job_limit S (length_at b.lengths) ≡ energy (view b) S
+energy_is b h S valid = total_more b.jobs job_limit S (length_at b.lengths) h.limits.jobs λ k l. is_false _ λ e.
     omega (arith, (valid k e).0)
 
 -- ---- R4 and R5 as one, with a side
 
-exceeds-same : (P Q : ℤ → Type 0) → ((z : ℤ) → P z → Q z) → ((z : ℤ) → Q z → P z) → (low : ℤ) (o : Option ℤ)
+exceeds_same : (P Q : ℤ → Type 0) → ((z : ℤ) → P z → Q z) → ((z : ℤ) → Q z → P z) → (low : ℤ) (o : Option ℤ)
     → Exceeds P low o → Exceeds Q low o
-exceeds-same P Q f g low none h = λ z q. h z (g z q)
-exceeds-same P Q f g low (some z) ((p, most), over) = ((f z p, λ y q. most y (g y q)), over)
+exceeds_same P Q f g low none h = λ z q. h z (g z q)
+exceeds_same P Q f g low (some z) ((p, most), over) = ((f z p, λ y q. most y (g y q)), over)
 
 module _ (b : Board) (h : Within b) (s : Side) (j w : ℕ) where
-  pub sum-beyond : ((k : ℕ) → bit w k ≡ true → Valid (view b) k × Beyond (view b) s k j)
-      → (z : ℤ) → Sum s (timesOf b s) b.lengths w z → SumBeyond (view b) s j z
-  sum-beyond members z p =
+  pub sum_beyond : ((k : ℕ) → bit w k ≡ true → Valid (view b) k × Beyond (view b) s k j)
+      → (z : ℤ) → Sum s (times_of b s) b.lengths w z → SumBeyond (view b) s j z
+  sum_beyond members z p =
       let valid : (k : ℕ) → p.set k ≡ true → Valid (view b) k × Beyond (view b) s k j = λ k e. members k (p.inside k e) in
       record {
         set = p.set;
         beyond = valid;
         first = p.first;
         member = p.member;
-        least = λ k e. omega (whole, p.least k e, bound-is b s p.first, bound-is b s k);
-        is = cc (p.is, bound-is b s p.first, energy-is b h p.set (λ k e. (valid k e).0));
+        least = λ k e. omega (whole, p.least k e, bound_is b s p.first, bound_is b s k);
+        is = cc (p.is, bound_is b s p.first, energy_is b h p.set (λ k e. (valid k e).0));
       }
 
   -- and back, where the set is one of the word w
-  pub sum_of : (z : ℤ) (p : SumBeyond (view b) s j z) → ((k : ℕ) → p.set k ≡ true → bit w k ≡ true) → Sum s (timesOf b s) b.lengths w z
+  pub sum_of : (z : ℤ) (p : SumBeyond (view b) s j z) → ((k : ℕ) → p.set k ≡ true → bit w k ≡ true) → Sum s (times_of b s) b.lengths w z
   sum_of z p inside =
       record {
         set = p.set;
         inside = inside;
         first = p.first;
         member = p.member;
-        least = λ k e. omega (whole, p.least k e, bound-is b s p.first, bound-is b s k);
-        is = cc (p.is, bound-is b s p.first, energy-is b h p.set (λ k e. (p.beyond k e).0));
+        least = λ k e. omega (whole, p.least k e, bound_is b s p.first, bound_is b s k);
+        is = cc (p.is, bound_is b s p.first, energy_is b h p.set (λ k e. (p.beyond k e).0));
       }
 
 module _ (b : Board) (h : Within b) (s : Side) (j w : ℕ) (members : (k : ℕ) → Decides (bit w k) (Valid (view b) k × Beyond (view b) s k j)) where
-  beyond-sum : (z : ℤ) → SumBeyond (view b) s j z → Sum s (timesOf b s) b.lengths w z
-  beyond-sum z p = sum_of b h s j w z p λ k e. (members k).show (p.beyond k e)
+  beyond_sum : (z : ℤ) → SumBeyond (view b) s j z → Sum s (times_of b s) b.lengths w z
+  beyond_sum z p = sum_of b h s j w z p λ k e. (members k).show (p.beyond k e)
 
-  pub exceeds-beyond : (low : ℤ) (o : Option ℤ) → Exceeds (Sum s (timesOf b s) b.lengths w) low o → Exceeds (SumBeyond (view b) s j) low o
-  exceeds-beyond = exceeds-same _ _ (sum-beyond b h s j w λ k e. (members k).yes e) beyond-sum
+  pub exceeds_beyond : (low : ℤ) (o : Option ℤ) → Exceeds (Sum s (times_of b s) b.lengths w) low o → Exceeds (SumBeyond (view b) s j) low o
+  exceeds_beyond = exceeds_same _ _ (sum_beyond b h s j w λ k e. (members k).yes e) beyond_sum
 
 -- ---- in the paper's words
 
@@ -91,21 +91,21 @@ FallsBelow P high none = (z : ℤ) → P z → high ≤ℤ z
 FallsBelow P high (some z) = (P z × ((y : ℤ) → P y → z ≤ℤ y)) × (z <ℤ high)
 
 -- the time that an answer gives
-abbrev pub timeOf : EnergyBound → Option ℤ
-timeOf Unbounded = none
-timeOf (At t) = some t
+abbrev pub time_of : EnergyBound → Option ℤ
+time_of Unbounded = none
+time_of (At t) = some t
 
-beyond-R4 : (v : View) (b : ℕ) (z : ℤ) → SumBeyond v early b z → SumR4 v b z
-beyond-R4 v b z p =
+beyond_R4 : (v : View) (b : ℕ) (z : ℤ) → SumBeyond v early b z → SumR4 v b z
+beyond_R4 v b z p =
     record { set = p.set; before = p.beyond; first = p.first; member = p.member; least = p.least; is = p.is }
 
-R4-beyond : (v : View) (b : ℕ) (z : ℤ) → SumR4 v b z → SumBeyond v early b z
-R4-beyond v b z p =
+R4_beyond : (v : View) (b : ℕ) (z : ℤ) → SumR4 v b z → SumBeyond v early b z
+R4_beyond v b z p =
     record { set = p.set; beyond = p.before; first = p.first; member = p.member; least = p.least; is = p.is }
 
 module _ (v : View) (a : ℕ) (z : ℤ) where
-  beyond-R5 : SumBeyond v late a (neg_ℤ z) → DifferenceR5 v a z
-  beyond-R5 p =
+  beyond_R5 : SumBeyond v late a (neg_ℤ z) → DifferenceR5 v a z
+  beyond_R5 p =
       let d = D v p.first in
       let e = energy v p.set in
       record {
@@ -117,8 +117,8 @@ module _ (v : View) (a : ℕ) (z : ℤ) where
         is = omega (whole, p.is, minus z, minus d, minus e, plus (neg_ℤ d) e, plus d (neg_ℤ e));
       }
 
-  R5-beyond : DifferenceR5 v a z → SumBeyond v late a (neg_ℤ z)
-  R5-beyond p =
+  R5_beyond : DifferenceR5 v a z → SumBeyond v late a (neg_ℤ z)
+  R5_beyond p =
       let d = D v p.last in
       let e = energy v p.set in
       record {
@@ -132,26 +132,26 @@ module _ (v : View) (a : ℕ) (z : ℤ) where
 
 -- "E of a live B is at least (least E in S) + (sum of lengths in S) for each non-empty set S of valid jobs with arcs to B":
 -- at side early the answer is the greatest of these sums where it is above the floor, and none exactly where no such sum is.
-pub raise-exact : (b : Board) → Within b → (j w : ℕ) → ((k : ℕ) → Decides (bit w k) (Valid (view b) k × Arc (view b) k j))
-    → (floor : ℤ) (r : EnergyBound) → Exceeds (Sum early b.earliest b.lengths w) floor (boundOf early r)
-    → Exceeds (SumR4 (view b) j) floor (timeOf r)
-raise-exact b h j w members floor r g = go r (exceeds-beyond b h early j w members floor (boundOf early r) g)
+pub raise_exact : (b : Board) → Within b → (j w : ℕ) → ((k : ℕ) → Decides (bit w k) (Valid (view b) k × Arc (view b) k j))
+    → (floor : ℤ) (r : EnergyBound) → Exceeds (Sum early b.earliest b.lengths w) floor (bound_of early r)
+    → Exceeds (SumR4 (view b) j) floor (time_of r)
+raise_exact b h j w members floor r g = go r (exceeds_beyond b h early j w members floor (bound_of early r) g)
   where
-    go : (r : EnergyBound) → Exceeds (SumBeyond (view b) early j) floor (boundOf early r) → Exceeds (SumR4 (view b) j) floor (timeOf r)
-    go Unbounded g = exceeds-same _ _ (beyond-R4 (view b) j) (R4-beyond (view b) j) floor none g
-    go (At t) g = exceeds-same _ _ (beyond-R4 (view b) j) (R4-beyond (view b) j) floor (some t) g
+    go : (r : EnergyBound) → Exceeds (SumBeyond (view b) early j) floor (bound_of early r) → Exceeds (SumR4 (view b) j) floor (time_of r)
+    go Unbounded g = exceeds_same _ _ (beyond_R4 (view b) j) (R4_beyond (view b) j) floor none g
+    go (At t) g = exceeds_same _ _ (beyond_R4 (view b) j) (R4_beyond (view b) j) floor (some t) g
 
 -- "D of a live A is at most (greatest D in S) - (sum of lengths in S) for each non-empty set S of valid jobs that A has arcs
 -- to": at side late the answer is the least of these differences where it is below the floor, and none exactly where none is.
-pub lower-exact : (b : Board) → Within b → (j w : ℕ) → ((k : ℕ) → Decides (bit w k) (Valid (view b) k × Arc (view b) j k))
-    → (floor : ℤ) (r : EnergyBound) → Exceeds (Sum late b.latest b.lengths w) (neg_ℤ floor) (boundOf late r)
-    → FallsBelow (DifferenceR5 (view b) j) floor (timeOf r)
-lower-exact b h j w members floor r g = go r (exceeds-beyond b h late j w members (neg_ℤ floor) (boundOf late r) g)
+pub lower_exact : (b : Board) → Within b → (j w : ℕ) → ((k : ℕ) → Decides (bit w k) (Valid (view b) k × Arc (view b) j k))
+    → (floor : ℤ) (r : EnergyBound) → Exceeds (Sum late b.latest b.lengths w) (neg_ℤ floor) (bound_of late r)
+    → FallsBelow (DifferenceR5 (view b) j) floor (time_of r)
+lower_exact b h j w members floor r g = go r (exceeds_beyond b h late j w members (neg_ℤ floor) (bound_of late r) g)
   where
     turned : (y : ℤ) → DifferenceR5 (view b) j y → SumBeyond (view b) late j (neg_ℤ y)
-    turned y p = R5-beyond (view b) j y p
+    turned y p = R5_beyond (view b) j y p
 
-    go : (r : EnergyBound) → Exceeds (SumBeyond (view b) late j) (neg_ℤ floor) (boundOf late r) → FallsBelow (DifferenceR5 (view b) j) floor (timeOf r)
+    go : (r : EnergyBound) → Exceeds (SumBeyond (view b) late j) (neg_ℤ floor) (bound_of late r) → FallsBelow (DifferenceR5 (view b) j) floor (time_of r)
     go Unbounded g = λ z p. omega (whole, g (neg_ℤ z) (turned z p), minus z, minus floor)
     go (At t) ((p, most), over) =
-        ((beyond-R5 (view b) j t p, λ y q. omega (whole, most (neg_ℤ y) (turned y q), minus y, minus t)), omega (whole, over, minus t, minus floor))
+        ((beyond_R5 (view b) j t p, λ y q. omega (whole, most (neg_ℤ y) (turned y q), minus y, minus t)), omega (whole, over, minus t, minus floor))

@@ -6,7 +6,7 @@ use Rattle.std.specs.Int.Signed.{lt_z}
 use Rattle.ground_sets.specs.Bit.{bit, without}
 use Rattle.ground_arithmetic.specs.Sum.{total}
 use Rattle.paper_board.specs.Paper.View.{Side}
-use Rattle.paper_board.specs.Paper.Limits.{IsTime, jobLimit, longest}
+use Rattle.paper_board.specs.Paper.Limits.{IsTime, job_limit, longest}
 use Rattle.paper_board.specs.Paper.Values.{turned}
 use Rattle.engine_sums.specs.declared.EnergyBound.{EnergyBound}
 use Rattle.engine_sums.specs.declared.EnergyBound.TheVariants.{Unbounded, At}
@@ -33,7 +33,7 @@ pub record Lengths (lengths : List ℤ) : Type 0 where
 
 -- the sum of lengths in the set w
 abbrev pub load : List ℤ → ℕ → ℤ
-load lengths w = total jobLimit (bit w) (length_at lengths)
+load lengths w = total job_limit (bit w) (length_at lengths)
 
 -- z is the least bound of the set w
 pub record LeastBound (s : Side) (times : List ℤ) (w : ℕ) (z : ℤ) : Type 0 where
@@ -50,9 +50,9 @@ pub record Comes (s : Side) (times lengths : List ℤ) (w : ℕ) (low all : ℤ)
 -- What is left of a set when jobs are struck one after the other: each one's bound and the lengths of all that are left when
 -- it is struck, its own among them, come to `best` at most.
 pub data Strikes (s : Side) (times lengths : List ℤ) (best : ℤ) (set : ℕ) : ℕ → Type 0 where
-  none-struck : Strikes s times lengths best set set
-  struck : (w k : ℕ) → Strikes s times lengths best set w → k < jobLimit → bit w k ≡ true
-      → (bound_at s times k +ℤ load lengths w) ≤ℤ best → Strikes s times lengths best set (without jobLimit w k)
+  none_struck : Strikes s times lengths best set set
+  struck : (w k : ℕ) → Strikes s times lengths best set w → k < job_limit → bit w k ≡ true
+      → (bound_at s times k +ℤ load lengths w) ≤ℤ best → Strikes s times lengths best set (without job_limit w k)
 
 -- the bound of each job kept beats `best` with the lengths of the whole set
 pub record Beats (s : Side) (times lengths : List ℤ) (best : ℤ) (set kept : ℕ) : Type 0 where
@@ -66,7 +66,7 @@ pub record Sum (s : Side) (times lengths : List ℤ) (w : ℕ) (z : ℤ) : Type 
   pub first : ℕ
   pub member : set first ≡ true
   pub least : (k : ℕ) → set k ≡ true → bound_at s times first ≤ℤ bound_at s times k
-  pub is : z ≡ bound_at s times first +ℤ total jobLimit set (length_at lengths)
+  pub is : z ≡ bound_at s times first +ℤ total job_limit set (length_at lengths)
 
 -- the greatest number that has the property P
 abbrev Greatest : (ℤ → Type 0) → ℤ → Type 0
@@ -92,6 +92,6 @@ Pushes s times lengths w j none = Unit
 Pushes s times lengths w j (some z) = Sum s times lengths w z × (bound_at s times j <ℤ z)
 
 -- the bound that an answer stands for
-abbrev pub boundOf : Side → EnergyBound → Option ℤ
-boundOf s Unbounded = none
-boundOf s (At t) = some (turned s t)
+abbrev pub bound_of : Side → EnergyBound → Option ℤ
+bound_of s Unbounded = none
+bound_of s (At t) = some (turned s t)

@@ -2,7 +2,7 @@
 ghost use Rattle.std.specs.Prelude.{◌≡◌, ◌<◌};
 ghost use Rattle.std.specs.Int.Signed.{lt_z};
 ghost use Rattle.ground_arithmetic.specs.Time.{Moderate};
-ghost use Rattle.paper_board.specs.Paper.Limits.{jobLimit};
+ghost use Rattle.paper_board.specs.Paper.Limits.{job_limit};
 ghost use Rattle.paper_board.specs.Paper.Values as paper;
 ghost use Rattle.engine_sums.specs.Sums as sums;
 
@@ -40,7 +40,7 @@ pub fn is_lower(side: Side, time: i32, other: i32) -> bool
 // The bound that stands at place k.
 pub fn bound(side: Side, times: &[i32; Board::JOBS], k: usize) -> i32
     requires times { sums.Times times.now }
-    requires k_lt_job_limit { k < jobLimit }
+    requires k_lt_job_limit { k < job_limit }
     ensures { result ≡ sums.bound_at (paper.side_of side) times.now k }
 {
     turned(side, times[k])
@@ -48,7 +48,7 @@ pub fn bound(side: Side, times: &[i32; Board::JOBS], k: usize) -> i32
 
 // The bound that the job at place k leaves to the jobs beyond it.
 pub fn end(side: Side, times: &[i32; Board::JOBS], lengths: &[i32; Board::JOBS], k: usize) -> i32
-    requires { sums.Times times.now × sums.Lengths lengths.now × (k < jobLimit) }
+    requires { sums.Times times.now × sums.Lengths lengths.now × (k < job_limit) }
     ensures { result ≡ sums.end_at (paper.side_of side) times.now lengths.now k }
 {
     ground_arithmetic::sum(bound(side, times, k), lengths[k])
@@ -57,7 +57,7 @@ pub fn end(side: Side, times: &[i32; Board::JOBS], lengths: &[i32; Board::JOBS],
 // A bound as a time, where it is above the floor.
 pub fn above(side: Side, floor: i32, best: i32) -> EnergyBound
     requires { Moderate best }
-    ensures { sums.boundOf (paper.side_of side) result ≡ sums.over floor best }
+    ensures { sums.bound_of (paper.side_of side) result ≡ sums.over floor best }
 {
     if floor < best {
         return EnergyBound::At(turned(side, best));
@@ -73,8 +73,8 @@ pub fn single_bound(
     k: usize,
     floor: i32,
 ) -> EnergyBound
-    requires { sums.Times times.now × sums.Lengths lengths.now × (k < jobLimit) × Moderate floor }
-    ensures { sums.boundOf (paper.side_of side) result ≡ sums.over (paper.turned (paper.side_of side) floor) (sums.end_at (paper.side_of side) times.now lengths.now k) }
+    requires { sums.Times times.now × sums.Lengths lengths.now × (k < job_limit) × Moderate floor }
+    ensures { sums.bound_of (paper.side_of side) result ≡ sums.over (paper.turned (paper.side_of side) floor) (sums.end_at (paper.side_of side) times.now lengths.now k) }
 {
     above(side, turned(side, floor), end(side, times, lengths, k))
 }

@@ -1,7 +1,7 @@
 // Transitivity: what R1 infers through each valid job in turn, from all jobs before it to all after it, as in Warshall's
 // algorithm. It is sound and need not be complete: what it leaves out the search finds.
 ghost use Rattle.std.specs.Prelude.{◌<◌, get_or};
-ghost use Rattle.paper_board.specs.Paper.Limits.{jobLimit};
+ghost use Rattle.paper_board.specs.Paper.Limits.{job_limit};
 ghost use Rattle.paper_board.specs.BoardTests.Sets.{Subset};
 ghost use Rattle.engine_arcs.specs.Arcs.{Sound};
 ghost use Rattle.engine_transitivity.specs.Transitivity.{AllValid, Through, Forth};
@@ -18,7 +18,7 @@ fn join(
     through: usize,
     live: u64,
 ) -> u64
-    requires { (from < jobLimit) × (through < jobLimit) }
+    requires { (from < job_limit) × (through < job_limit) }
     ensures { Sound (Forth from through) before.old after.old before.new after.new }
 {
     let all = ground_sets::difference(ground_sets::without(after[through], from), after[from]);
@@ -41,7 +41,7 @@ fn join_through(
     through: usize,
     live: u64,
 ) -> Ends
-    requires { (through < jobLimit) × Subset sources (get_or before.old through 0) }
+    requires { (through < job_limit) × Subset sources (get_or before.old through 0) }
     ensures { Sound (Through through) before.old after.old before.new after.new }
 {
     let mut found = no_ends();

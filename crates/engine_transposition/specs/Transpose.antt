@@ -9,8 +9,8 @@ use native.Mathlib.Omega.{arith}
 use Rattle.std.specs.Int.Bits.{bit_and, bit_xor}
 use borrow.Author.Tests.{eq-eqb, ne_eqb}
 use Rattle.ground_sets.specs.Bit.{bit, width, intersection}
-use Rattle.ground_sets.specs.BitLaws.{bit-xor, bit-intersection, bit-shift, bit-left, bit-left-low, bit_kept}
-use Rattle.ground_arithmetic.specs.Bools.{refuted, is_false, by-test}
+use Rattle.ground_sets.specs.BitLaws.{bit_xor, bit_intersection, bit_shift, bit_left, bit_left_low, bit_kept}
+use Rattle.ground_arithmetic.specs.Bools.{refuted, is_false, by_test}
 use Rattle.paper_board.specs.Paper.Tests.{implies}
 use Rattle.paper_board.specs.BoardTests.WithinLimits.{all}
 use Rattle.paper_board.specs.BoardTests.Decides.{Decides, restated, holds, negated, implied, every, ◌and◌, le, lt, eq}
@@ -23,15 +23,15 @@ pub record Mask (shift mask : ℕ) : Type 0 where
   pub first : (k : ℕ) → k < width → bit mask k ≡ true → (shift + k < width) × (bit mask (shift + k) ≡ true → ⊥)
   pub second : (k : ℕ) → k < width → (bit mask k ≡ true → ⊥) → (shift ≤ k) × (bit mask (k - shift) ≡ true)
 
-unfoldable isMask : ℕ → ℕ → Bool
-isMask shift mask =
+unfoldable is_mask : ℕ → ℕ → Bool
+is_mask shift mask =
     ltb shift width
     && all width (λ k. implies (bit mask k) (ltb (shift + k) width && not (bit mask (shift + k))))
     && all width (λ k. implies (not (bit mask k)) (leb shift k && bit mask (k - shift)))
 
-decides-mask : (shift mask : ℕ) → Decides (isMask shift mask) (Mask shift mask)
-unfolding isMask
-decides-mask shift mask =
+decides_mask : (shift mask : ℕ) → Decides (is_mask shift mask) (Mask shift mask)
+unfolding is_mask
+decides_mask shift mask =
     restated
     (lt shift width
     and every width (λ k. implied (holds (bit mask k)) (lt (shift + k) width and negated (holds (bit mask (shift + k)))))
@@ -44,8 +44,8 @@ abbrev mask_of : ℕ → ℕ
 mask_of shift = (2 ^ width - 1) / (2 ^ shift + 1)
 
 pub masks : (s : ℕ) → s < 6 → Mask (2 ^ s) (mask_of (2 ^ s))
-unfolding bit all implies isMask
-masks = (every 6 (λ s. decides-mask (2 ^ s) (mask_of (2 ^ s)))).yes refl
+unfolding bit all implies is_mask
+masks = (every 6 (λ s. decides_mask (2 ^ s) (mask_of (2 ^ s)))).yes refl
 
 -- ---- two words
 
@@ -68,14 +68,14 @@ exchanged false b false = refl
 module _ (low high shift mask : ℕ) where
   masked : (a b k : ℕ) → bit (bit_and mask (bit_xor a b)) k ≡ (bit mask k && xor (bit a k) (bit b k))
   unfolding intersection
-  masked a b k = bit-intersection mask (bit_xor a b) k ∙ ap (λ (t : Bool). bit mask k && t) (bit-xor a b k)
+  masked a b k = bit_intersection mask (bit_xor a b) k ∙ ap (λ (t : Bool). bit mask k && t) (bit_xor a b k)
 
-  pub bit-upper : Upper shift mask low high (bit_xor high (bit_and mask (bit_xor high (low / 2 ^ shift))))
-  bit-upper k l =
-      bit-xor high (bit_and mask (bit_xor high (low / 2 ^ shift))) k
+  pub bit_upper : Upper shift mask low high (bit_xor high (bit_and mask (bit_xor high (low / 2 ^ shift))))
+  bit_upper k l =
+      bit_xor high (bit_and mask (bit_xor high (low / 2 ^ shift))) k
       ∙ ap (xor (bit high k)) (masked high (low / 2 ^ shift) k)
       ∙ exchanged (bit high k) (bit (low / 2 ^ shift) k) (bit mask k)
-      ∙ ap (λ (t : Bool). cond (bit mask k) t (bit high k)) (bit-shift low shift k)
+      ∙ ap (λ (t : Bool). cond (bit mask k) t (bit high k)) (bit_shift low shift k)
 
   abbrev moved : ℕ
   moved = bit_and mask (bit_xor (low / 2 ^ shift) high)
@@ -86,21 +86,21 @@ module _ (low high shift mask : ℕ) where
   -- below the shift nothing moves
   unmoved : (k : ℕ) → k < width → k < shift → bit lowered k ≡ bit low k
   unmoved k w l =
-      bit-xor low (moved * 2 ^ shift % 2 ^ width) k
-      ∙ ap (xor (bit low k)) (bit_kept width (moved * 2 ^ shift) k w ∙ bit-left-low moved shift k l)
+      bit_xor low (moved * 2 ^ shift % 2 ^ width) k
+      ∙ ap (xor (bit low k)) (bit_kept width (moved * 2 ^ shift) k w ∙ bit_left_low moved shift k l)
       ∙ exchanged (bit low k) true false
 
   moved_up : (k : ℕ) → shift + k < width → bit lowered (shift + k) ≡ cond (bit mask k) (bit high k) (bit low (shift + k))
   moved_up k w =
-      bit-xor low (moved * 2 ^ shift % 2 ^ width) (shift + k)
+      bit_xor low (moved * 2 ^ shift % 2 ^ width) (shift + k)
       ∙ ap (xor (bit low (shift + k)))
-      (bit_kept width (moved * 2 ^ shift) (shift + k) w ∙ bit-left moved shift k ∙ masked (low / 2 ^ shift) high k
-      ∙ ap (λ (t : Bool). bit mask k && xor t (bit high k)) (bit-shift low shift k))
+      (bit_kept width (moved * 2 ^ shift) (shift + k) w ∙ bit_left moved shift k ∙ masked (low / 2 ^ shift) high k
+      ∙ ap (λ (t : Bool). bit mask k && xor t (bit high k)) (bit_shift low shift k))
       ∙ exchanged (bit low (shift + k)) (bit high k) (bit mask k)
 
-  pub bit-lower : Mask shift mask → Lower shift mask low high lowered
-  bit-lower m k w =
-      by-test (λ t. bit lowered k ≡ t) (bit mask k) (bit low k) (bit high (k - shift)) (stays (dec_lt k shift)) comes
+  pub bit_lower : Mask shift mask → Lower shift mask low high lowered
+  bit_lower m k w =
+      by_test (λ t. bit lowered k ≡ t) (bit mask k) (bit low k) (bit high (k - shift)) (stays (dec_lt k shift)) comes
     where
       stays : Dec (k < shift) → bit mask k ≡ true → bit lowered k ≡ bit low k
       stays (yes l) e = unmoved k w l
@@ -139,17 +139,17 @@ chosen from true i j x y = refl
 chosen from false i j x y = refl
 
 module _ (shift mask : ℕ) (from : List ℕ) (i : ℕ) where
-  lower-taken : (w : ℕ) → Lower shift mask (get_or from i 0) (get_or from (i + 32) 0) w
+  lower_taken : (w : ℕ) → Lower shift mask (get_or from i 0) (get_or from (i + 32) 0) w
       → (k : ℕ) → k < width → bit w k ≡ bit (get_or from (word_of mask (2 * i) k) 0) (bit_of shift mask (2 * i) k)
   unfolding word_of bit_of
-  lower-taken w h k l =
+  lower_taken w h k l =
       let half : 2 * i / 2 ≡ i = omega arith in
       h k l ∙ rw (half, eq-eqb (2 * i % 2) 0 (omega arith)) (chosen from (bit mask k) i (i + 32) k (k - shift))
 
-  upper-taken : (w : ℕ) → Upper shift mask (get_or from i 0) (get_or from (i + 32) 0) w
+  upper_taken : (w : ℕ) → Upper shift mask (get_or from i 0) (get_or from (i + 32) 0) w
       → (k : ℕ) → k < width → bit w k ≡ bit (get_or from (word_of mask (2 * i + 1) k) 0) (bit_of shift mask (2 * i + 1) k)
   unfolding word_of bit_of
-  upper-taken w h k l =
+  upper_taken w h k l =
       let half : (2 * i + 1) / 2 ≡ i = omega arith in
       h k l ∙ rw (half, ne_eqb ((2 * i + 1) % 2) 0 (λ e. omega arith)) (chosen from (bit mask k) i (i + 32) (shift + k) k)
 
@@ -170,9 +170,9 @@ module _ (shift mask : ℕ) (from : List ℕ) (i : ℕ) where
 
       go : Dec (j ≡ 2 * i + 1) → Dec (j ≡ 2 * i) → Taken shift mask from (set more (2 * i + 1) v) j
       go (yes e) d =
-          at v (rw e (get_or-set_same more (2 * i + 1) v 0 (omega (arith, length-set to (2 * i) w)))) (rw e (upper-taken v upper))
+          at v (rw e (get_or-set_same more (2 * i + 1) v 0 (omega (arith, length-set to (2 * i) w)))) (rw e (upper_taken v upper))
       go (no n) (yes e) =
-          at w (get_or-set_other more (2 * i + 1) j v 0 n ∙ rw e (get_or-set_same to (2 * i) w 0 (omega arith))) (rw e (lower-taken w lower))
+          at w (get_or-set_other more (2 * i + 1) j v 0 n ∙ rw e (get_or-set_same to (2 * i) w 0 (omega arith))) (rw e (lower_taken w lower))
       go (no n) (no m) =
           at (get_or to j 0) (get_or-set_other more (2 * i + 1) j v 0 n ∙ get_or-set_other to (2 * i) j w 0 m)
           (before j (omega (arith, n, m)))
@@ -190,20 +190,20 @@ module _ (s : ℕ) (l : s < 6) (i k : ℕ) (li : i < width) (lk : k < width) whe
   abbrev mask : ℕ
   mask = mask_of (2 ^ s)
 
-  word-inside : word_of mask i k < width
+  word_inside : word_of mask i k < width
   unfolding word_of
-  word-inside = by-test (λ x. x < width) (bit mask k) (i / 2) (i / 2 + 32) (λ e. omega arith) (λ e. omega arith)
+  word_inside = by_test (λ x. x < width) (bit mask k) (i / 2) (i / 2 + 32) (λ e. omega arith) (λ e. omega arith)
 
-  bit-inside : bit_of (2 ^ s) mask i k < width
+  bit_inside : bit_of (2 ^ s) mask i k < width
   unfolding bit_of
-  bit-inside =
-      by-test (λ x. x < width) (eqb (i % 2) 0) (cond (bit mask k) k (k - 2 ^ s)) (cond (bit mask k) (2 ^ s + k) k)
-      (λ z. by-test (λ x. x < width) (bit mask k) k (k - 2 ^ s) (λ e. lk) (λ e. omega arith))
-      (λ z. by-test (λ x. x < width) (bit mask k) (2 ^ s + k) k (λ e. ((masks s l).first k lk e).0) (λ e. lk))
+  bit_inside =
+      by_test (λ x. x < width) (eqb (i % 2) 0) (cond (bit mask k) k (k - 2 ^ s)) (cond (bit mask k) (2 ^ s + k) k)
+      (λ z. by_test (λ x. x < width) (bit mask k) k (k - 2 ^ s) (λ e. lk) (λ e. omega arith))
+      (λ z. by_test (λ x. x < width) (bit mask k) (2 ^ s + k) k (λ e. ((masks s l).first k lk e).0) (λ e. lk))
 
-source-inside : (s : ℕ) → s < 6 → (p : ℕ × ℕ) → Inside p → Inside (source s p)
+source_inside : (s : ℕ) → s < 6 → (p : ℕ × ℕ) → Inside p → Inside (source s p)
 unfolding source
-source-inside s l (i, k) (li, lk) = (word-inside s l i k li lk, bit-inside s l i k li lk)
+source_inside s l (i, k) (li, lk) = (word_inside s l i k li lk, bit_inside s l i k li lk)
 
 abbrev at : List ℕ → ℕ × ℕ → Bool
 at words p = bit (get_or words p.0 0) p.1
@@ -229,11 +229,11 @@ pub transposed : (a b c d e f g : List ℕ)
     → Exchanged 32 (mask_of 32) a b → Exchanged 16 (mask_of 16) b c → Exchanged 8 (mask_of 8) c d
     → Exchanged 4 (mask_of 4) d e → Exchanged 2 (mask_of 2) e f → Exchanged 1 (mask_of 1) f g → Transposed a g
 transposed a b c d e f g r5 r4 r3 r2 r1 r0 i k li lk =
-    let h1 = source-inside 0 (omega arith) (i, k) (li, lk) in
-    let h2 = source-inside 1 (omega arith) _ h1 in
-    let h3 = source-inside 2 (omega arith) _ h2 in
-    let h4 = source-inside 3 (omega arith) _ h3 in
-    let h5 = source-inside 4 (omega arith) _ h4 in
+    let h1 = source_inside 0 (omega arith) (i, k) (li, lk) in
+    let h2 = source_inside 1 (omega arith) _ h1 in
+    let h3 = source_inside 2 (omega arith) _ h2 in
+    let h4 = source_inside 3 (omega arith) _ h3 in
+    let h5 = source_inside 4 (omega arith) _ h4 in
     let (word, place) = mirrored i li k lk in
     back f g 0 r0 (i, k) (li, lk)
     ∙ back e f 1 r1 _ h1

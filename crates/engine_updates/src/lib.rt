@@ -4,8 +4,8 @@ ghost use Rattle.std.specs.Prelude.{◌≡◌, true, ◌<◌};
 ghost use Rattle.std.proofs.Math.Option.{some};
 ghost use Rattle.ground_arithmetic.specs.Time.{Moderate};
 ghost use Rattle.paper_board.specs.declared.Board as boards;
-ghost use Rattle.paper_board.specs.Paper.Limits.{jobLimit, Within};
-ghost use Rattle.paper_board.specs.Paper.Facts.{is_bound, is-valid, AboutJobs};
+ghost use Rattle.paper_board.specs.Paper.Limits.{job_limit, Within};
+ghost use Rattle.paper_board.specs.Paper.Facts.{is_bound, is_valid, AboutJobs};
 ghost use Rattle.paper_board.specs.Paper.Values.{side_of, turned, fact_of};
 ghost use Rattle.paper_rules.specs.Update.Updates as updates;
 ghost use Rattle.paper_rules.specs.Update.ArraysWithin.{filled, possibly, ArraysWithin, Alters};
@@ -19,8 +19,8 @@ use paper_board::facts::{Fact, Side};
 
 // "Only an entry makes a job valid."
 fn validate(marks: &mut [u8; Board::JOBS], job: usize) -> bool
-    requires { job < jobLimit }
-    ensures { (b : boards.Board) → updates.update (filled b b.lengths b.earliest b.latest marks.old b.after b.before) (is-valid job) ≡ possibly result (filled b b.lengths b.earliest b.latest marks.new b.after b.before) }
+    requires { job < job_limit }
+    ensures { (b : boards.Board) → updates.update (filled b b.lengths b.earliest b.latest marks.old b.after b.before) (is_valid job) ≡ possibly result (filled b b.lengths b.earliest b.latest marks.new b.after b.before) }
 {
     if marks[job] == Board::INVALID {
         return false;
@@ -88,7 +88,7 @@ pub fn is_shown<'a>(
     after: &'a [u64; Board::JOBS],
     fact: Fact,
 ) -> bool
-    requires { AboutJobs jobLimit (fact_of fact) }
+    requires { AboutJobs job_limit (fact_of fact) }
     ensures { (b : boards.Board) → let c = filled b b.lengths earliest.now latest.now marks.now after.now b.before in Within c → result ≡ true → updates.update c (fact_of fact) ≡ some c }
 {
     match fact {

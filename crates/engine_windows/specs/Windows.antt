@@ -13,8 +13,8 @@ abbrev pub bounded : Side → ℤ → Window → Window
 bounded early t w = record { earliest = t; latest = w.latest }
 bounded late t w = record { earliest = w.earliest; latest = t }
 
-abbrev pub windowOf : Row → Window
-windowOf r = record { earliest = r.earliest; latest = r.latest }
+abbrev pub window_of : Row → Window
+window_of r = record { earliest = r.earliest; latest = r.latest }
 
 -- a row with another window
 abbrev pub moved : Window → Row → Row

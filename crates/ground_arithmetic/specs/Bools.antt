@@ -26,11 +26,11 @@ pub and_both : (a b : Bool) → a ≡ true → b ≡ true → (a && b) ≡ true
 and_both a b p q = rw (p, q)
 
 -- `p && q` in the code asks q only where p holds: the answer is q's where it is asked, and p's where it is not
-pub and-asked : {p q a b : Bool} → p ≡ a → p ≡ true → q ≡ b → q ≡ (a && b)
-and-asked first holds second = rw (sym first ∙ holds) second
+pub and_asked : {p q a b : Bool} → p ≡ a → p ≡ true → q ≡ b → q ≡ (a && b)
+and_asked first holds second = rw (sym first ∙ holds) second
 
-pub and-unasked : {p a : Bool} → p ≡ a → p ≡ false → (b : Bool) → p ≡ (a && b)
-and-unasked first fails b = rw (sym first ∙ fails) fails
+pub and_unasked : {p a : Bool} → p ≡ a → p ≡ false → (b : Bool) → p ≡ (a && b)
+and_unasked first fails b = rw (sym first ∙ fails) fails
 
 -- two tests that imply each other are the same
 pub same_tests : (a b : Bool) → (a ≡ true → b ≡ true) → (b ≡ true → a ≡ true) → a ≡ b
@@ -39,6 +39,6 @@ same_tests false true f g = g refl
 same_tests false false f g = refl
 
 -- a test decides which of two values is taken
-pub by-test : {A : Type 0} (P : A → Type 0) (t : Bool) (x y : A) → (t ≡ true → P x) → (t ≡ false → P y) → P (cond t x y)
-by-test P true x y p q = p refl
-by-test P false x y p q = q refl
+pub by_test : {A : Type 0} (P : A → Type 0) (t : Bool) (x y : A) → (t ≡ true → P x) → (t ≡ false → P y) → P (cond t x y)
+by_test P true x y p q = p refl
+by_test P false x y p q = q refl

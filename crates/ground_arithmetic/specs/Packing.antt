@@ -4,7 +4,7 @@ use Rattle.std.proofs.Common.{sym, ap, ◌∙◌, arith}
 use Rattle.std.proofs.Math.Bool.{not-not, and-eq-true_iff}
 use Rattle.std.specs.Int.Signed.{le_z}
 use Rattle.ground_arithmetic.specs.Linear.{whole, plus}
-use Rattle.ground_arithmetic.specs.Sum.{sum, total, total-split}
+use Rattle.ground_arithmetic.specs.Sum.{sum, total, total_split}
 
 -- of any two jobs of S below n, where one ends after the other starts, the other ends no later than the one starts
 abbrev pub Apart : ℕ → (ℕ → Bool) → (ℕ → ℤ) → (ℕ → ℤ) → Type 0
@@ -62,7 +62,7 @@ packing (suc n) S start length m t l after before apart =
           whole,
           x e,
           y e,
-          total-split n S first length,
+          total_split n S first length,
           plus (total n early length) (total n late length),
           plus (total n S length) (length n),
           plus m (total n S length +ℤ length n),

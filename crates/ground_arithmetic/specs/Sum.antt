@@ -4,7 +4,7 @@ use Rattle.std.specs.Prelude.{◌≡◌, refl, ◌≢◌, Bool, true, false, con
 use Rattle.std.proofs.Common.{sym, ◌∙◌, suc-mul, arith, below_more, leb-true, leb-false}
 use Rattle.std.proofs.Math.Decide.{ℕ_discrete}
 use Rattle.std.specs.Int.Signed.{lt_z}
-use Rattle.ground_arithmetic.specs.Bools.{clash, by-test}
+use Rattle.ground_arithmetic.specs.Bools.{clash, by_test}
 use Rattle.ground_arithmetic.specs.Linear.{whole, plus}
 
 -- the sum of f k for each k below n
@@ -31,15 +31,15 @@ unfolding sum
 sum_same zero f g h = refl
 sum_same (suc n) f g h = cc (sum_same n f g (λ k l. h k (omega arith)), h n (omega arith))
 
-sum-plus : (n : ℕ) (f g : ℕ → ℤ) → sum n (λ k. f k +ℤ g k) ≡ sum n f +ℤ sum n g
+sum_plus : (n : ℕ) (f g : ℕ → ℤ) → sum n (λ k. f k +ℤ g k) ≡ sum n f +ℤ sum n g
 unfolding sum
-sum-plus zero f g = refl
-sum-plus (suc n) f g =
+sum_plus zero f g = refl
+sum_plus (suc n) f g =
     let F = sum n f in
     let G = sum n g in
     omega (
       whole,
-      sum-plus n f g,
+      sum_plus n f g,
       plus (sum n (λ k. f k +ℤ g k)) (f n +ℤ g n),
       plus (f n) (g n),
       plus F G,
@@ -48,18 +48,18 @@ sum-plus (suc n) f g =
       plus (F +ℤ f n) (G +ℤ g n),
     )
 
-pub total-same : (n : ℕ) (S : ℕ → Bool) (f g : ℕ → ℤ) → ((k : ℕ) → k < n → S k ≡ true → f k ≡ g k) → total n S f ≡ total n S g
-total-same n S f g h = sum_same n (chosen S f) (chosen S g) λ k l. at (S k) (f k) (g k) (h k l)
+pub total_same : (n : ℕ) (S : ℕ → Bool) (f g : ℕ → ℤ) → ((k : ℕ) → k < n → S k ≡ true → f k ≡ g k) → total n S f ≡ total n S g
+total_same n S f g h = sum_same n (chosen S f) (chosen S g) λ k l. at (S k) (f k) (g k) (h k l)
   where
     at : (t : Bool) (x y : ℤ) → (t ≡ true → x ≡ y) → cond t x (pos 0) ≡ cond t y (pos 0)
     at true x y e = e refl
     at false x y e = refl
 
 -- past n there is nothing to add
-pub total-more : (n m : ℕ) (S : ℕ → Bool) (f : ℕ → ℤ) → n ≤ m → ((k : ℕ) → n ≤ k → S k ≡ false) → total m S f ≡ total n S f
+pub total_more : (n m : ℕ) (S : ℕ → Bool) (f : ℕ → ℤ) → n ≤ m → ((k : ℕ) → n ≤ k → S k ≡ false) → total m S f ≡ total n S f
 unfolding sum
-total-more n zero S f l h = let d : n ≡ 0 = omega arith in rw d
-total-more n (suc m) S f l h = go (leb n m) refl (λ b. total-more n m S f b h)
+total_more n zero S f l h = let d : n ≡ 0 = omega arith in rw d
+total_more n (suc m) S f l h = go (leb n m) refl (λ b. total_more n m S f b h)
   where
     go : (t : Bool) → leb n m ≡ t → (n ≤ m → total m S f ≡ total n S f) → total (suc m) S f ≡ total n S f
     go true e ih =
@@ -67,10 +67,10 @@ total-more n (suc m) S f l h = go (leb n m) refl (λ b. total-more n m S f b h)
         rw (h m b) (omega (whole, plus (total m S f) (pos 0), ih b))
     go false e ih = let d : n ≡ suc m = omega (arith, leb-false n m e) in rw d
 
-pub total-subset : (n : ℕ) (S R : ℕ → Bool) (f : ℕ → ℤ)
+pub total_subset : (n : ℕ) (S R : ℕ → Bool) (f : ℕ → ℤ)
     → ((k : ℕ) → k < n → S k ≡ true → R k ≡ true)
     → ((k : ℕ) → k < n → R k ≡ true → pos 0 ≤ℤ f k) → total n S f ≤ℤ total n R f
-total-subset n S R f h p = sum_mono n (chosen S f) (chosen R f) λ k l. at (S k) (R k) (f k) (h k l) (p k l)
+total_subset n S R f h p = sum_mono n (chosen S f) (chosen R f) λ k l. at (S k) (R k) (f k) (h k l) (p k l)
   where
     at : (s r : Bool) (x : ℤ) → (s ≡ true → r ≡ true) → (r ≡ true → pos 0 ≤ℤ x) → cond s x (pos 0) ≤ℤ cond r x (pos 0)
     at true true x e q = omega whole
@@ -79,8 +79,8 @@ total-subset n S R f h p = sum_mono n (chosen S f) (chosen R f) λ k l. at (S k)
     at false false x e q = omega whole
 
 -- a set is its members in P and those not in P
-pub total-split : (n : ℕ) (S P : ℕ → Bool) (f : ℕ → ℤ) → total n S f ≡ total n (λ k. S k && P k) f +ℤ total n (λ k. S k && not (P k)) f
-total-split n S P f = sum_same n (chosen S f) _ (λ k l. at (S k) (P k) (f k)) ∙ sum-plus n _ _
+pub total_split : (n : ℕ) (S P : ℕ → Bool) (f : ℕ → ℤ) → total n S f ≡ total n (λ k. S k && P k) f +ℤ total n (λ k. S k && not (P k)) f
+total_split n S P f = sum_same n (chosen S f) _ (λ k l. at (S k) (P k) (f k)) ∙ sum_plus n _ _
   where
     at : (s p : Bool) (x : ℤ) → cond s x (pos 0) ≡ cond (s && p) x (pos 0) +ℤ cond (s && not p) x (pos 0)
     at true true x = omega (whole, plus x (pos 0))
@@ -88,12 +88,12 @@ total-split n S P f = sum_same n (chosen S f) _ (λ k l. at (S k) (P k) (f k)) �
     at false p x = refl
 
 -- a member more, a term more
-pub total-member : (n : ℕ) (S R : ℕ → Bool) (f : ℕ → ℤ) (k : ℕ) → k < n → S k ≡ true → R k ≡ false
+pub total_member : (n : ℕ) (S R : ℕ → Bool) (f : ℕ → ℤ) (k : ℕ) → k < n → S k ≡ true → R k ≡ false
     → ((j : ℕ) → j ≢ k → R j ≡ S j) → total n S f ≡ f k +ℤ total n R f
 unfolding sum
-total-member zero S R f k l sk rk others = absurd (omega arith)
-total-member (suc n) S R f k l sk rk others =
-    go (ℕ_discrete k n) λ b. total-member n S R f k b sk rk others
+total_member zero S R f k l sk rk others = absurd (omega arith)
+total_member (suc n) S R f k l sk rk others =
+    go (ℕ_discrete k n) λ b. total_member n S R f k b sk rk others
   where
     go : Dec (k ≡ n) → (k < n → total n S f ≡ f k +ℤ total n R f) → total (suc n) S f ≡ f k +ℤ total (suc n) R f
     go (yes e) ih =
@@ -105,20 +105,20 @@ total-member (suc n) S R f k l sk rk others =
         (omega (whole, ih (omega (arith, ne)), plus (total n S f) c, plus (total n R f) c, plus (f k) (total n R f +ℤ c), plus (f k) (total n R f)))
 
 -- n terms of at most c
-pub total-range : (n c : ℕ) (S : ℕ → Bool) (f : ℕ → ℤ) → ((k : ℕ) → (pos 0 ≤ℤ f k) × (f k ≤ℤ pos c))
+pub total_range : (n c : ℕ) (S : ℕ → Bool) (f : ℕ → ℤ) → ((k : ℕ) → (pos 0 ≤ℤ f k) × (f k ≤ℤ pos c))
     → (pos 0 ≤ℤ total n S f) × (total n S f ≤ℤ pos (n * c))
 unfolding sum
-total-range zero c S f h = (omega whole, omega whole)
-total-range (suc n) c S f h =
-    let (low, high) = total-range n c S f h in
+total_range zero c S f h = (omega whole, omega whole)
+total_range (suc n) c S f h =
+    let (low, high) = total_range n c S f h in
     let x : ℤ = cond (S n) (f n) (pos 0) in
-    let at : (pos 0 ≤ℤ x) × (x ≤ℤ pos c) = by-test (λ y. (pos 0 ≤ℤ y) × (y ≤ℤ pos c)) (S n) (f n) (pos 0) (λ e. h n) (λ e. (omega whole, omega whole)) in
+    let at : (pos 0 ≤ℤ x) × (x ≤ℤ pos c) = by_test (λ y. (pos 0 ≤ℤ y) × (y ≤ℤ pos c)) (S n) (f n) (pos 0) (λ e. h n) (λ e. (omega whole, omega whole)) in
     (omega (whole, plus (total n S f) x), omega (whole, suc-mul n c, plus (total n S f) x))
 
 -- a member of S below n at which f is least
-pub least-member : (n : ℕ) (S : ℕ → Bool) (f : ℕ → ℤ) (x : ℕ) → x < n → S x ≡ true
+pub least_member : (n : ℕ) (S : ℕ → Bool) (f : ℕ → ℤ) (x : ℕ) → x < n → S x ≡ true
     → (y : ℕ) × (y < n) × (S y ≡ true) × ((k : ℕ) → k < n → S k ≡ true → f y ≤ℤ f k)
-least-member n S f x l s = upto n (omega arith)
+least_member n S f x l s = upto n (omega arith)
   where
     Above : ℕ → ℕ → Type 0
     Above y k = S k ≡ true → f y ≤ℤ f k
@@ -143,24 +143,24 @@ unfoldable pub count : ℕ → (ℕ → ℕ) → ℕ
 count zero f = 0
 count (suc n) f = count n f + f n
 
-pub count-mono : (n : ℕ) (f g : ℕ → ℕ) → ((k : ℕ) → k < n → f k ≤ g k) → count n f ≤ count n g
+pub count_mono : (n : ℕ) (f g : ℕ → ℕ) → ((k : ℕ) → k < n → f k ≤ g k) → count n f ≤ count n g
 unfolding count
-count-mono zero f g h = omega arith
-count-mono (suc n) f g h = omega (arith, count-mono n f g (λ k l. h k (omega arith)), h n (omega arith))
+count_mono zero f g h = omega arith
+count_mono (suc n) f g h = omega (arith, count_mono n f g (λ k l. h k (omega arith)), h n (omega arith))
 
 -- where one term falls and none grows, the sum falls
-pub count-falls : (n : ℕ) (f g : ℕ → ℕ) (j : ℕ) → j < n → f j < g j → ((k : ℕ) → k < n → f k ≤ g k) → count n f < count n g
+pub count_falls : (n : ℕ) (f g : ℕ → ℕ) (j : ℕ) → j < n → f j < g j → ((k : ℕ) → k < n → f k ≤ g k) → count n f < count n g
 unfolding count
-count-falls zero f g j l d h = omega arith
-count-falls (suc n) f g j l d h = go (leb n j) refl (λ b. count-falls n f g j b d λ k a. h k (omega arith))
+count_falls zero f g j l d h = omega arith
+count_falls (suc n) f g j l d h = go (leb n j) refl (λ b. count_falls n f g j b d λ k a. h k (omega arith))
   where
     go : (t : Bool) → leb n j ≡ t → (j < n → count n f < count n g) → count (suc n) f < count (suc n) g
     go true e ih =
         let same : j ≡ n = omega (arith, leb-true n j e) in
-        omega (arith, rw same at d, count-mono n f g (λ k a. h k (omega arith)))
+        omega (arith, rw same at d, count_mono n f g (λ k a. h k (omega arith)))
     go false e ih = omega (arith, ih (omega (arith, leb-false n j e)), h n (omega arith))
 
-pub count-bound : (n c : ℕ) (f : ℕ → ℕ) → ((k : ℕ) → k < n → f k ≤ c) → count n f ≤ n * c
+pub count_bound : (n c : ℕ) (f : ℕ → ℕ) → ((k : ℕ) → k < n → f k ≤ c) → count n f ≤ n * c
 unfolding count
-count-bound zero c f h = omega arith
-count-bound (suc n) c f h = omega (arith, suc-mul n c, count-bound n c f (λ k l. h k (omega arith)), h n (omega arith))
+count_bound zero c f h = omega arith
+count_bound (suc n) c f h = omega (arith, suc-mul n c, count_bound n c f (λ k l. h k (omega arith)), h n (omega arith))

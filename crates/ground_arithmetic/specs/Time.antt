@@ -3,7 +3,7 @@ use Rattle.std.specs.Prelude.{◌≡◌, false, cond, ℤ, pos, negsuc, neg_ℤ,
 use Rattle.std.specs.Int.Signed.{lt_z}
 use Rattle.std.specs.Int.{w32}
 use Rattle.std.proofs.Common.{SFits}
-use Rattle.ground_arithmetic.specs.Bools.{by-test}
+use Rattle.ground_arithmetic.specs.Bools.{by_test}
 use Rattle.ground_arithmetic.specs.Linear.{whole, plus, minus}
 
 pub fits : (z : ℤ) → negsuc 2147483647 ≤ℤ z → z ≤ℤ pos 2147483647 → SFits w32 z
@@ -17,8 +17,8 @@ Moderate z = (negsuc 999999999 ≤ℤ z) × (z ≤ℤ pos 1000000000)
 pub sum_fits : (a b : ℤ) → Moderate a → Moderate b → SFits w32 (a +ℤ b)
 sum_fits a b h l = fits (a +ℤ b) (omega (whole, plus a b)) (omega (whole, plus a b))
 
-pub gap-fits : (e d : ℤ) → Moderate e → Moderate d → SFits w32 (e -ℤ d)
-gap-fits e d h l = fits (e -ℤ d) (omega (whole, plus e (neg_ℤ d), minus d)) (omega (whole, plus e (neg_ℤ d), minus d))
+pub gap_fits : (e d : ℤ) → Moderate e → Moderate d → SFits w32 (e -ℤ d)
+gap_fits e d h l = fits (e -ℤ d) (omega (whole, plus e (neg_ℤ d), minus d)) (omega (whole, plus e (neg_ℤ d), minus d))
 
 abbrev pub greater : ℤ → ℤ → ℤ
 greater a b = cond (lt_z a b) b a
@@ -26,17 +26,17 @@ greater a b = cond (lt_z a b) b a
 abbrev pub lesser : ℤ → ℤ → ℤ
 lesser a b = cond (lt_z a b) a b
 
-pub greater-left : (a b : ℤ) → a ≤ℤ greater a b
-greater-left a b = by-test (λ x. a ≤ℤ x) (lt_z a b) b a (λ e. omega whole) (λ e. omega whole)
+pub greater_left : (a b : ℤ) → a ≤ℤ greater a b
+greater_left a b = by_test (λ x. a ≤ℤ x) (lt_z a b) b a (λ e. omega whole) (λ e. omega whole)
 
-pub greater-right : (a b : ℤ) → b ≤ℤ greater a b
-greater-right a b = by-test (λ x. b ≤ℤ x) (lt_z a b) b a (λ e. omega whole) (λ e. omega whole)
+pub greater_right : (a b : ℤ) → b ≤ℤ greater a b
+greater_right a b = by_test (λ x. b ≤ℤ x) (lt_z a b) b a (λ e. omega whole) (λ e. omega whole)
 
-pub greater-first : (a b : ℤ) → b ≤ℤ a → greater a b ≡ a
-greater-first a b l = let e : lt_z a b ≡ false = omega whole in rw e
+pub greater_first : (a b : ℤ) → b ≤ℤ a → greater a b ≡ a
+greater_first a b l = let e : lt_z a b ≡ false = omega whole in rw e
 
-pub lesser-left : (a b : ℤ) → lesser a b ≤ℤ a
-lesser-left a b = by-test (λ x. x ≤ℤ a) (lt_z a b) a b (λ e. omega whole) (λ e. omega whole)
+pub lesser_left : (a b : ℤ) → lesser a b ≤ℤ a
+lesser_left a b = by_test (λ x. x ≤ℤ a) (lt_z a b) a b (λ e. omega whole) (λ e. omega whole)
 
-pub lesser-right : (a b : ℤ) → lesser a b ≤ℤ b
-lesser-right a b = by-test (λ x. x ≤ℤ b) (lt_z a b) a b (λ e. omega whole) (λ e. omega whole)
+pub lesser_right : (a b : ℤ) → lesser a b ≤ℤ b
+lesser_right a b = by_test (λ x. x ≤ℤ b) (lt_z a b) a b (λ e. omega whole) (λ e. omega whole)

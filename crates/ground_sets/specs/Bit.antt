@@ -30,6 +30,6 @@ unfoldable pub without : ℕ → ℕ → ℕ → ℕ
 without n w k = difference n w (singleton k)
 
 -- the jobs below n that pass the test: the lowest bit is for job 0
-unfoldable pub setOf : ℕ → (ℕ → Bool) → ℕ
-setOf zero t = 0
-setOf (suc n) t = cond (t 0) 1 0 + 2 * setOf n (λ k. t (suc k))
+unfoldable pub set_of : ℕ → (ℕ → Bool) → ℕ
+set_of zero t = 0
+set_of (suc n) t = cond (t 0) 1 0 + 2 * set_of n (λ k. t (suc k))

@@ -1,7 +1,7 @@
 // The board of one dock as a struct by value, with the limits that belong to its type, and the refusals of the table.
 ghost use Rattle.std.specs.Prelude.{◌≡◌};
-ghost use Rattle.paper_board.specs.Paper.Limits.{emptyBoard};
-ghost use Rattle.paper_board.specs.Paper.Parts.{emptyBooks};
+ghost use Rattle.paper_board.specs.Paper.Limits.{empty_board};
+ghost use Rattle.paper_board.specs.Paper.Parts.{empty_books};
 ghost use Rattle.paper_board.specs.Paper.Refusals.{number_of};
 
 pub mod facts;
@@ -55,7 +55,7 @@ impl Board {
 
     // A board without jobs whose tally starts at 0.
     pub fn empty() -> Self
-        ensures { result ≡ emptyBoard emptyBooks }
+        ensures { result ≡ empty_board empty_books }
     {
         Self {
             jobs: 0,

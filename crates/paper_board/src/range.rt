@@ -11,13 +11,13 @@ pub fn between(low: i32, high: i32, z: i32) -> bool
 }
 
 pub fn is_time(z: i32) -> bool
-    ensures { result ≡ tests.isTime z }
+    ensures { result ≡ tests.is_time z }
 {
     between(Board::FIRST_MINUTE, Board::LAST_MINUTE, z)
 }
 
 pub fn is_length(z: i32) -> bool
-    ensures { result ≡ tests.isLength z }
+    ensures { result ≡ tests.is_length z }
 {
     between(Board::SHORTEST, Board::LONGEST, z)
 }

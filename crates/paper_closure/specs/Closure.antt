@@ -3,13 +3,13 @@ use Rattle.std.proofs.Math.Option.{Option, none, some}
 use Rattle.std.specs.Prelude.{ℕ, zero, suc, ◌+◌, ◌*◌}
 use Rattle.paper_board.specs.declared.Board.{Board}
 use Rattle.paper_board.specs.Paper.View.{view}
-use Rattle.paper_board.specs.Paper.Limits.{jobLimit}
-use Rattle.paper_rules.specs.Update.Updates.{update, ◌andThen◌}
+use Rattle.paper_board.specs.Paper.Limits.{job_limit}
+use Rattle.paper_rules.specs.Update.Updates.{update, ◌and_then◌}
 use Rattle.paper_closure.specs.Find.{find}
 
 -- Each inference uses up a minute of a window, an arc or a live job, so that there are never more steps than this.
 abbrev pub steps : ℕ
-steps = jobLimit * 2000001 + jobLimit * jobLimit
+steps = job_limit * 2000001 + job_limit * job_limit
 
 -- at most n steps; with more steps allowed than there are inferences to make, the first clause is never met
 unfoldable pub close : ℕ → Board → Option Board

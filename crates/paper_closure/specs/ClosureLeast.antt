@@ -7,10 +7,10 @@ use Rattle.paper_board.specs.Paper.View.{view}
 use Rattle.paper_board.specs.Paper.Limits.{Within, BooksWithin}
 use Rattle.paper_rules.specs.Paper.Entries.{Entries, shown}
 use Rattle.paper_rules.specs.Paper.Closed.{Least, Contradiction}
-use Rattle.paper_rules.specs.Order.Leastness.{below-least, impossible-contradiction}
-use Rattle.paper_rules.specs.Inference.ObeysRules.{obeys-rules}
+use Rattle.paper_rules.specs.Order.Leastness.{below_least, impossible_contradiction}
+use Rattle.paper_rules.specs.Inference.ObeysRules.{obeys_rules}
 use Rattle.paper_closure.specs.Closure.{closure}
-use Rattle.paper_closure.specs.Closes.{ClosedTo, closure-closes}
+use Rattle.paper_closure.specs.Closes.{ClosedTo, closure_closes}
 
 abbrev pub LeastOrNone : Entries → Option Board → Type 0
 LeastOrNone es (some c) = Least es c
@@ -18,17 +18,17 @@ LeastOrNone es none = Contradiction es
 
 -- The computed closure of any board within the limits, with books within theirs, ends, and gives the least closed board over what that
 -- board shows, or there is no closed board.
-pub closure-least : (b : Board) → Within b → BooksWithin b.books → LeastOrNone (shown (view b)) (closure b)
-closure-least b h books = go (closure b) (closure-closes b h)
+pub closure_least : (b : Board) → Within b → BooksWithin b.books → LeastOrNone (shown (view b)) (closure b)
+closure_least b h books = go (closure b) (closure_closes b h)
   where
     go : (o : Option Board) → ClosedTo b o → LeastOrNone (shown (view b)) o
     go (some c) t =
-        below-least (shown (view b)) c
+        below_least (shown (view b)) c
         (record {
           within = t.more.within;
           books = subst⁻¹ BooksWithin t.more.books books;
           shows = record { count = t.more.jobs; at_least = t.more.above };
-          rules = obeys-rules (view c) t.meets;
+          rules = obeys_rules (view c) t.meets;
         })
         λ w up ob. t.least w up ob ob
-    go none t = impossible-contradiction (shown (view b)) λ w up ob. t w up ob ob
+    go none t = impossible_contradiction (shown (view b)) λ w up ob. t w up ob ob

@@ -3,7 +3,7 @@ use Rattle.std.specs.Prelude.{Bool, true, false, not, ◌&&◌, ◌||◌, ℕ, z
 use Rattle.std.proofs.Math.Option.{Option, none, some}
 use Rattle.std.specs.Int.Signed.{le_z, lt_z}
 use Rattle.paper_board.specs.Paper.View.{View, Side, early, late, bound}
-use Rattle.paper_board.specs.Paper.Facts.{Fact, is-arc, is_bound, is-invalid}
+use Rattle.paper_board.specs.Paper.Facts.{Fact, is_arc, is_bound, is_invalid}
 use Rattle.paper_rules.specs.Paper.Rules.{energy}
 use Rattle.paper_board.specs.Paper.Tests.{live, valid}
 use Rattle.paper_board.specs.BoardTests.Live.{roomy}
@@ -13,8 +13,8 @@ unfoldable pub guard : Bool → Fact → Option Fact
 guard true f = some f
 guard false f = none
 
-infixl 20 ◌orElse◌
-unfoldable pub ◌orElse◌ : Option Fact → Option Fact → Option Fact
+infixl 20 ◌or_else◌
+unfoldable pub ◌or_else◌ : Option Fact → Option Fact → Option Fact
 none or_else o = o
 some f or_else o = some f
 
@@ -35,8 +35,8 @@ module _ (v : View) where
   beyond late k j = v.arc j k
 
   -- R3: E of A + length of A + length of B > D of B
-  unfoldable pub tooLate : ℕ → ℕ → Bool
-  tooLate a b = lt_z (v.row b).latest ((v.row a).earliest +ℤ (v.row a).length +ℤ (v.row b).length)
+  unfoldable pub too_late : ℕ → ℕ → Bool
+  too_late a b = lt_z (v.row b).latest ((v.row a).earliest +ℤ (v.row a).length +ℤ (v.row b).length)
 
   -- R1: arcs A to B and B to C, B valid
   unfoldable pub joined : ℕ → ℕ → Bool
@@ -57,10 +57,10 @@ module _ (v : View) where
   -- what a rule infers at the pair of i and k, and the view does not show
   unfoldable pub next : ℕ → ℕ → Option Fact
   next i k =
-      guard (live v i && not (roomy (v.row i))) (is-invalid i)
-      or_else guard (valid v i && live v k && v.arc i k && v.arc k i) (is-invalid k)
-      or_else guard (live v i && live v k && not (eqb i k) && tooLate i k && not (v.arc k i)) (is-arc k i)
-      or_else guard (live v i && live v k && not (eqb i k) && joined i k && not (v.arc i k)) (is-arc i k)
+      guard (live v i && not (roomy (v.row i))) (is_invalid i)
+      or_else guard (valid v i && live v k && v.arc i k && v.arc k i) (is_invalid k)
+      or_else guard (live v i && live v k && not (eqb i k) && too_late i k && not (v.arc k i)) (is_arc k i)
+      or_else guard (live v i && live v k && not (eqb i k) && joined i k && not (v.arc i k)) (is_arc i k)
       or_else push early i k
       or_else push late i k
 

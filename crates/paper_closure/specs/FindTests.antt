@@ -7,39 +7,39 @@ use Rattle.paper_board.specs.Paper.View.{View, Live, Valid, Arc, Side, early, la
 use Rattle.paper_rules.specs.Paper.Rules.{E, D, L}
 use Rattle.paper_board.specs.Paper.Tests.{live, valid}
 use Rattle.paper_board.specs.BoardTests.Live.{roomy}
-use Rattle.paper_board.specs.BoardTests.Decides.{Decides, ◌and◌, negated, holds, eq, live-is, valid-is, at_most, earlier, not-at-most}
-use Rattle.paper_closure.specs.Find.{beyond, tooLate, joined, pushers, pushed}
+use Rattle.paper_board.specs.BoardTests.Decides.{Decides, ◌and◌, negated, holds, eq, live_is, valid_is, at_most, earlier, not_at_most}
+use Rattle.paper_closure.specs.Find.{beyond, too_late, joined, pushers, pushed}
 use Rattle.paper_closure.specs.Finds.{some_below}
 
 module _ (v : View) where
-  beyond-is : (s : Side) (k j : ℕ) → Decides (beyond v s k j) (Beyond v s k j)
+  beyond_is : (s : Side) (k j : ℕ) → Decides (beyond v s k j) (Beyond v s k j)
   unfolding beyond
-  beyond-is early k j = holds (v.arc k j)
-  beyond-is late k j = holds (v.arc j k)
+  beyond_is early k j = holds (v.arc k j)
+  beyond_is late k j = holds (v.arc j k)
 
   differ : (a b : ℕ) → Decides (not (eqb a b)) (a ≢ b)
   differ a b = negated (eq a b)
 
-  no-arc : (a b : ℕ) → Decides (not (v.arc a b)) (Arc v a b → ⊥)
-  no-arc a b = negated (holds (v.arc a b))
+  no_arc : (a b : ℕ) → Decides (not (v.arc a b)) (Arc v a b → ⊥)
+  no_arc a b = negated (holds (v.arc a b))
 
   -- R6
-  pub room-is : (j : ℕ) → Decides (live v j && not (roomy (v.row j))) (Live v j × (D v j <ℤ (E v j +ℤ L v j)))
-  room-is j = live-is v j and not-at-most (E v j +ℤ L v j) (D v j)
+  pub room_is : (j : ℕ) → Decides (live v j && not (roomy (v.row j))) (Live v j × (D v j <ℤ (E v j +ℤ L v j)))
+  room_is j = live_is v j and not_at_most (E v j +ℤ L v j) (D v j)
 
   -- R2
-  pub exclude-is : (a b : ℕ) → Decides (valid v a && live v b && v.arc a b && v.arc b a) (((Valid v a × Live v b) × Arc v a b) × Arc v b a)
-  exclude-is a b = valid-is v a and live-is v b and holds (v.arc a b) and holds (v.arc b a)
+  pub exclude_is : (a b : ℕ) → Decides (valid v a && live v b && v.arc a b && v.arc b a) (((Valid v a × Live v b) × Arc v a b) × Arc v b a)
+  exclude_is a b = valid_is v a and live_is v b and holds (v.arc a b) and holds (v.arc b a)
 
   -- R3
-  late_is : (a b : ℕ) → Decides (tooLate v a b) (D v b <ℤ (E v a +ℤ L v a +ℤ L v b))
-  unfolding tooLate
+  late_is : (a b : ℕ) → Decides (too_late v a b) (D v b <ℤ (E v a +ℤ L v a +ℤ L v b))
+  unfolding too_late
   late_is a b = record { yes = λ e. omega whole; show = λ h. omega whole }
 
   pub order_is : (a b : ℕ)
-      → Decides (live v a && live v b && not (eqb a b) && tooLate v a b && not (v.arc b a))
+      → Decides (live v a && live v b && not (eqb a b) && too_late v a b && not (v.arc b a))
       ((((Live v a × Live v b) × (a ≢ b)) × (D v b <ℤ (E v a +ℤ L v a +ℤ L v b))) × (Arc v b a → ⊥))
-  order_is a b = live-is v a and live-is v b and differ a b and late_is a b and no-arc b a
+  order_is a b = live_is v a and live_is v b and differ a b and late_is a b and no_arc b a
 
   -- R1
   abbrev Joined : ℕ → ℕ → Type 0
@@ -47,20 +47,20 @@ module _ (v : View) where
 
   joined_is : (a c : ℕ) → Decides (joined v a c) (Joined a c)
   unfolding joined
-  joined_is a c = some_below v.jobs λ b. valid-is v b and holds (v.arc a b) and holds (v.arc b c)
+  joined_is a c = some_below v.jobs λ b. valid_is v b and holds (v.arc a b) and holds (v.arc b c)
 
   pub join_is : (a c : ℕ)
       → Decides (live v a && live v c && not (eqb a c) && joined v a c && not (v.arc a c))
       ((((Live v a × Live v c) × (a ≢ c)) × Joined a c) × (Arc v a c → ⊥))
-  join_is a c = live-is v a and live-is v c and differ a c and joined_is a c and no-arc a c
+  join_is a c = live_is v a and live_is v c and differ a c and joined_is a c and no_arc a c
 
   -- R4 and R5
-  pub pusher-is : (s : Side) (x j k : ℕ)
+  pub pusher_is : (s : Side) (x j k : ℕ)
       → Decides (pushers v s x j k) ((Valid v k × Beyond v s k j) × (bound s (v.row x) ≤ℤ bound s (v.row k)))
   unfolding pushers
-  pusher-is s x j k = valid-is v k and beyond-is s k j and at_most (bound s (v.row x)) (bound s (v.row k))
+  pusher_is s x j k = valid_is v k and beyond_is s k j and at_most (bound s (v.row x)) (bound s (v.row k))
 
-  pub push-is : (s : Side) (x j : ℕ)
+  pub push_is : (s : Side) (x j : ℕ)
       → Decides (live v j && valid v x && beyond v s x j && lt_z (bound s (v.row j)) (pushed v s x j))
       (((Live v j × Valid v x) × Beyond v s x j) × (bound s (v.row j) <ℤ pushed v s x j))
-  push-is s x j = live-is v j and valid-is v x and beyond-is s x j and earlier (bound s (v.row j)) (pushed v s x j)
+  push_is s x j = live_is v j and valid_is v x and beyond_is s x j and earlier (bound s (v.row j)) (pushed v s x j)

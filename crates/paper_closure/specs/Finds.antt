@@ -7,7 +7,7 @@ use Rattle.std.proofs.Math.Option.{Option, none, some}
 use Rattle.ground_arithmetic.specs.Bools.{clash, refuted}
 use Rattle.paper_board.specs.Paper.Facts.{Fact}
 use Rattle.paper_board.specs.BoardTests.Decides.{Decides}
-use Rattle.paper_closure.specs.Find.{guard, ◌orElse◌, first, any}
+use Rattle.paper_closure.specs.Find.{guard, ◌or_else◌, first, any}
 
 -- whatever o finds satisfies P
 pub record Finds (P : Fact → Type 0) (o : Option Fact) : Type 0 where
@@ -20,14 +20,14 @@ found_nothing : {P : Fact → Type 0} → Finds P none
 found_nothing = record { found = λ f e. clash (cc) }
 
 -- a guard finds its fact where what its test decides holds
-pub guard-finds : {P : Fact → Type 0} {t : Bool} {Q : Type 0} → Decides t Q → (f : Fact) → (Q → P f) → Finds P (guard t f)
+pub guard_finds : {P : Fact → Type 0} {t : Bool} {Q : Type 0} → Decides t Q → (f : Fact) → (Q → P f) → Finds P (guard t f)
 unfolding guard
-guard-finds {t = true} d f h = found_it f (h (d.yes refl))
-guard-finds {t = false} d f h = found_nothing
+guard_finds {t = true} d f h = found_it f (h (d.yes refl))
+guard_finds {t = false} d f h = found_nothing
 
 infixl 20 ◌else◌
 pub ◌else◌ : {P : Fact → Type 0} {o p : Option Fact} → Finds P o → Finds P p → Finds P (o or_else p)
-unfolding ◌orElse◌
+unfolding ◌or_else◌
 ◌else◌ {o = none} h k = k
 ◌else◌ {o = some f} h k = h
 
@@ -41,17 +41,17 @@ unfolding guard
 guard_none {t = true} d f e q = clash (cc)
 guard_none {t = false} d f e q = refuted refl (d.show q)
 
-pub orElse-none : (o p : Option Fact) → (o or_else p) ≡ none → (o ≡ none) × (p ≡ none)
-unfolding ◌orElse◌
-orElse-none none p e = (refl, e)
-orElse-none (some f) p e = clash (cc)
+pub or_else_none : (o p : Option Fact) → (o or_else p) ≡ none → (o ≡ none) × (p ≡ none)
+unfolding ◌or_else◌
+or_else_none none p e = (refl, e)
+or_else_none (some f) p e = clash (cc)
 
-pub first-none : (n : ℕ) (g : ℕ → Option Fact) → first n g ≡ none → (k : ℕ) → k < n → g k ≡ none
+pub first_none : (n : ℕ) (g : ℕ → Option Fact) → first n g ≡ none → (k : ℕ) → k < n → g k ≡ none
 unfolding first
-first-none zero g e k l = absurd (omega arith)
-first-none (suc n) g e k l =
-    let (before, last) = orElse-none (first n g) (g n) e in
-    below_more (λ m. g m ≡ none) n (first-none n g before) last k (omega arith)
+first_none zero g e k l = absurd (omega arith)
+first_none (suc n) g e k l =
+    let (before, last) = or_else_none (first n g) (g n) e in
+    below_more (λ m. g m ≡ none) n (first_none n g before) last k (omega arith)
 
 -- the test holds of a number below n
 pub some_below : (n : ℕ) {t : ℕ → Bool} {P : ℕ → Type 0} → ((k : ℕ) → Decides (t k) (P k))

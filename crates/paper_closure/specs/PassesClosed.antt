@@ -8,67 +8,67 @@ use Rattle.paper_board.specs.declared.Books.{Books}
 use Rattle.paper_board.specs.Paper.View.{view}
 use Rattle.paper_board.specs.Paper.Facts.{Fact}
 use Rattle.paper_rules.specs.Inference.Infers.{Obeys}
-use Rattle.paper_board.specs.Paper.Limits.{Within, BooksWithin, emptyBoard}
-use Rattle.paper_board.specs.BoardTests.WithinLimits.{withinLimits, booksLimits}
-use Rattle.paper_board.specs.BoardTests.LimitsDecided.{limits-yes, limits-show, decides-books}
-use Rattle.paper_rules.specs.Order.Empty.{within-empty, empty-obeys}
+use Rattle.paper_board.specs.Paper.Limits.{Within, BooksWithin, empty_board}
+use Rattle.paper_board.specs.BoardTests.WithinLimits.{within_limits, books_limits}
+use Rattle.paper_board.specs.BoardTests.LimitsDecided.{limits_yes, limits_show, decides_books}
+use Rattle.paper_rules.specs.Order.Empty.{within_empty, empty_obeys}
 use Rattle.paper_rules.specs.Paper.Entries.{shown}
 use Rattle.paper_rules.specs.Paper.Closed.{Closed, Least}
-use Rattle.paper_rules.specs.Order.Leastness.{handed-in}
-use Rattle.paper_rules.specs.Inference.ObeysRules.{obeys-rules, rules-obey}
-use Rattle.paper_rules.specs.Update.Derives.{derived-self}
+use Rattle.paper_rules.specs.Order.Leastness.{handed_in}
+use Rattle.paper_rules.specs.Inference.ObeysRules.{obeys_rules, rules_obey}
+use Rattle.paper_rules.specs.Update.Derives.{derived_self}
 use Rattle.paper_closure.specs.Find.{find}
-use Rattle.paper_closure.specs.FindSound.{find-sound}
-use Rattle.paper_closure.specs.FindComplete.{find-complete}
+use Rattle.paper_closure.specs.FindSound.{find_sound}
+use Rattle.paper_closure.specs.FindComplete.{find_complete}
 use Rattle.paper_closure.specs.Closure.{closure}
 use Rattle.paper_closure.specs.Closes.{lengths}
-use Rattle.paper_closure.specs.DerivedClosure.{derived-closure}
-use Rattle.paper_closure.specs.Passes.{nothingLeft, passes}
+use Rattle.paper_closure.specs.DerivedClosure.{derived_closure}
+use Rattle.paper_closure.specs.Passes.{nothing_left, passes}
 
-settled-none : (o : Option Fact) → nothingLeft o ≡ true → o ≡ none
-unfolding nothingLeft
-settled-none none e = refl
-settled-none (some f) e = absurd (refuted refl e)
+settled_none : (o : Option Fact) → nothing_left o ≡ true → o ≡ none
+unfolding nothing_left
+settled_none none e = refl
+settled_none (some f) e = absurd (refuted refl e)
 
-nothing_left : (b : Board) → Obeys (view b) → (o : Option Fact) → find (view b) ≡ o → nothingLeft o ≡ true
-unfolding nothingLeft
-nothing_left b obeys none e = refl
-nothing_left b obeys (some f) e = let (i, unshown) = find-sound (view b) f e in absurd (unshown (obeys f i))
+nothing_left_obeyed : (b : Board) → Obeys (view b) → (o : Option Fact) → find (view b) ≡ o → nothing_left o ≡ true
+unfolding nothing_left
+nothing_left_obeyed b obeys none e = refl
+nothing_left_obeyed b obeys (some f) e = let (i, unshown) = find_sound (view b) f e in absurd (unshown (obeys f i))
 
 module _ (b : Board) where
-  parts : passes b ≡ true → (withinLimits b ≡ true) × (booksLimits b.books ≡ true) × (nothingLeft (find (view b)) ≡ true)
+  parts : passes b ≡ true → (within_limits b ≡ true) × (books_limits b.books ≡ true) × (nothing_left (find (view b)) ≡ true)
   unfolding passes
   parts e =
-      let (limits, left) = and_parts (withinLimits b && booksLimits b.books) (nothingLeft (find (view b))) e in
-      let (own, books) = and_parts (withinLimits b) (booksLimits b.books) limits in
+      let (limits, left) = and_parts (within_limits b && books_limits b.books) (nothing_left (find (view b))) e in
+      let (own, books) = and_parts (within_limits b) (books_limits b.books) limits in
       (own, books, left)
 
-  pub passes-within : passes b ≡ true → Within b
-  passes-within e = limits-yes b (parts e).0
+  pub passes_within : passes b ≡ true → Within b
+  passes_within e = limits_yes b (parts e).0
 
-  pub passes-books : passes b ≡ true → BooksWithin b.books
-  passes-books e = (decides-books b.books).yes (parts e).1
+  pub passes_books : passes b ≡ true → BooksWithin b.books
+  passes_books e = (decides_books b.books).yes (parts e).1
 
-  pub passes-obeys : passes b ≡ true → Obeys (view b)
-  passes-obeys e = find-complete (view b) (lengths b (passes-within e)) (settled-none (find (view b)) (parts e).2)
+  pub passes_obeys : passes b ≡ true → Obeys (view b)
+  passes_obeys e = find_complete (view b) (lengths b (passes_within e)) (settled_none (find (view b)) (parts e).2)
 
   -- such a board is its own closure
-  pub closed-already : passes b ≡ true → closure b ≡ some b
-  closed-already e = let within = passes-within e in sym (derived-closure b b within (derived-self b within) (passes-obeys e))
+  pub closed_already : passes b ≡ true → closure b ≡ some b
+  closed_already e = let within = passes_within e in sym (derived_closure b b within (derived_self b within) (passes_obeys e))
 
-  pub obeys-passes : Within b → BooksWithin b.books → Obeys (view b) → passes b ≡ true
+  pub obeys_passes : Within b → BooksWithin b.books → Obeys (view b) → passes b ≡ true
   unfolding passes
-  obeys-passes within books obeys =
-      and_both (withinLimits b && booksLimits b.books) (nothingLeft (find (view b)))
-      (and_both (withinLimits b) (booksLimits b.books) (limits-show b within) ((decides-books b.books).show books))
-      (nothing_left b obeys (find (view b)) refl)
+  obeys_passes within books obeys =
+      and_both (within_limits b && books_limits b.books) (nothing_left (find (view b)))
+      (and_both (within_limits b) (books_limits b.books) (limits_show b within) ((decides_books b.books).show books))
+      (nothing_left_obeyed b obeys (find (view b)) refl)
 
   -- "a board handed in that passes check 0 is the least closed board over what it shows"
-  pub passes-least : passes b ≡ true → Least (shown (view b)) b
-  passes-least e = handed-in b (passes-within e) (passes-books e) (obeys-rules (view b) (passes-obeys e))
+  pub passes_least : passes b ≡ true → Least (shown (view b)) b
+  passes_least e = handed_in b (passes_within e) (passes_books e) (obeys_rules (view b) (passes_obeys e))
 
-  pub passes-closed : (passes b ≡ true) ↔ Closed (shown (view b)) b
-  passes-closed = (λ e. (passes-least e).closed, λ c. obeys-passes c.within c.books (rules-obey (view b) c.rules))
+  pub passes_closed : (passes b ≡ true) ↔ Closed (shown (view b)) b
+  passes_closed = (λ e. (passes_least e).closed, λ c. obeys_passes c.within c.books (rules_obey (view b) c.rules))
 
-pub empty-passes : (books : Books) → BooksWithin books → passes (emptyBoard books) ≡ true
-empty-passes books h = obeys-passes (emptyBoard books) (within-empty books) h (empty-obeys (view (emptyBoard books)) refl)
+pub empty_passes : (books : Books) → BooksWithin books → passes (empty_board books) ≡ true
+empty_passes books h = obeys_passes (empty_board books) (within_empty books) h (empty_obeys (view (empty_board books)) refl)

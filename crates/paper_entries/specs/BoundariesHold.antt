@@ -1,13 +1,13 @@
 -- The checks 1 to 7 of the table, each from both sides of its limit, and their order where an entry meets several: which
--- refusal `firstRefusal` gives, as one table that is computed as a whole.
+-- refusal `first_refusal` gives, as one table that is computed as a whole.
 use Rattle.std.specs.Prelude.{◌≡◌, refl, Bool, true, false, ◌&&◌, List, [], ◌∷◌, ℕ, eqb, ℤ, pos, negsuc}
 use Rattle.std.proofs.Math.Option.{Option, none, some}
-use Rattle.ground_arithmetic.specs.Linear.{eqZ}
+use Rattle.ground_arithmetic.specs.Linear.{eq_z}
 use Rattle.paper_board.specs.declared.Refusal.{Refusal}
 use Rattle.paper_board.specs.Paper.Refusals.{number_of}
 use Rattle.paper_board.specs.Paper.Tests.{between}
 use Rattle.paper_entries.specs.Paper.Entry.{arc, mark, cut, Entry, addition, other}
-use Rattle.paper_entries.specs.Paper.Checks.{checks, firstRefusal}
+use Rattle.paper_entries.specs.Paper.Checks.{checks, first_refusal}
 
 is_number : Option Refusal → ℕ → Bool
 is_number none n = false
@@ -19,10 +19,10 @@ is_none (some r) = false
 
 -- on a board of n jobs the entry meets refusal r first, or none of them
 refused : ℕ → ℕ → Entry → Bool
-refused r n e = is_number (firstRefusal (checks n e)) r
+refused r n e = is_number (first_refusal (checks n e)) r
 
 passed : ℕ → Entry → Bool
-passed n e = is_none (firstRefusal (checks n e))
+passed n e = is_none (first_refusal (checks n e))
 
 every : List Bool → Bool
 every [] = true
@@ -94,6 +94,6 @@ several =
     ∷ refused 5 2 (other (cut (pos 1) (pos 500001) (pos 0)))
     ∷ []
 
-boundaries-hold : (every additions && every others && every several) ≡ true
-unfolding is_number is_none refused passed every long window begins additions others several eqZ between firstRefusal
-boundaries-hold = refl
+boundaries_hold : (every additions && every others && every several) ≡ true
+unfolding is_number is_none refused passed every long window begins additions others several eq_z between first_refusal
+boundaries_hold = refl

@@ -9,15 +9,15 @@ use Rattle.paper_board.specs.declared.Board.{Board}
 use Rattle.paper_board.specs.Paper.View.{Row, View, view}
 use Rattle.paper_board.specs.Paper.Facts.{Fact, AboutJobs}
 use Rattle.paper_rules.specs.Inference.Infers.{Obeys}
-use Rattle.paper_rules.specs.Inference.AboutMore.{about-more}
+use Rattle.paper_rules.specs.Inference.AboutMore.{about_more}
 use Rattle.paper_rules.specs.Paper.Entries.{Entries, Admissible, Shows, shown}
-use Rattle.paper_board.specs.Paper.Limits.{jobLimit, Fits, Within, BooksWithin}
+use Rattle.paper_board.specs.Paper.Limits.{job_limit, Fits, Within, BooksWithin}
 use Rattle.paper_rules.specs.Order.Leastness.{Below, Impossible}
-use Rattle.paper_rules.specs.Order.OrderLaws.{atLeast-up}
-use Rattle.paper_rules.specs.Update.StoreWithin.{within-books, within-tally}
-use Rattle.paper_entries.specs.Paper.Entry.{Entry, addition, other, addedRow, stated, addRow, stating, withEntry}
-use Rattle.paper_entries.specs.ShowsEntry.{ShowsEntry, with-split, with-join, with-jobs}
-use Rattle.paper_entries.specs.EntriesAgree.{EntriesAgree, agree-sym, agreed}
+use Rattle.paper_rules.specs.Order.OrderLaws.{at_least_up}
+use Rattle.paper_rules.specs.Update.StoreWithin.{within_books, within_tally}
+use Rattle.paper_entries.specs.Paper.Entry.{Entry, addition, other, added_row, stated, add_row, stating, with_entry}
+use Rattle.paper_entries.specs.ShowsEntry.{ShowsEntry, with_split, with_join, with_jobs}
+use Rattle.paper_entries.specs.EntriesAgree.{EntriesAgree, agree_sym, agreed}
 use Rattle.paper_entries.specs.Allowed.{AllAboutJobs, Allowed}
 use Rattle.paper_entries.specs.Paper.Enter.{counted}
 use Rattle.paper_entries.specs.ClosesWith.{ClosedWith, ClosedToWith}
@@ -29,23 +29,23 @@ pub record Reached (es : Entries) (b : Board) : Type 0 where
   pub obeys : Obeys (view b)
   pub below : Below es (view b)
 
-admissible-row : (es : Entries) (r : Row) → Admissible es → es.jobs < jobLimit → Fits r → Admissible (addRow es r)
-admissible-row es r h free fits =
-    record { jobs = free; rows = λ k l. row k l (ℕ_discrete k es.jobs); about = λ f i. about-more (omega arith) f (h.about f i) }
+admissible_row : (es : Entries) (r : Row) → Admissible es → es.jobs < job_limit → Fits r → Admissible (add_row es r)
+admissible_row es r h free fits =
+    record { jobs = free; rows = λ k l. row k l (ℕ_discrete k es.jobs); about = λ f i. about_more (omega arith) f (h.about f i) }
   where
-    row : (k : ℕ) → k < suc es.jobs → Dec (k ≡ es.jobs) → ((addRow es r).row k).mark ≢ 2 → Fits ((addRow es r).row k)
+    row : (k : ℕ) → k < suc es.jobs → Dec (k ≡ es.jobs) → ((add_row es r).row k).mark ≢ 2 → Fits ((add_row es r).row k)
     row k l (yes e) = rw (eq-eqb k es.jobs e) λ n. fits
     row k l (no n) = rw (ne_eqb k es.jobs n) (h.rows k (omega (arith, n)))
 
-admissible-stated : (es : Entries) (fs : List Fact) → Admissible es → AllAboutJobs es.jobs fs → Admissible (stating es fs)
-admissible-stated es fs h k = record { jobs = h.jobs; rows = h.rows; about = λ f. ⊎_elim (h.about f) (k f) }
+admissible_stated : (es : Entries) (fs : List Fact) → Admissible es → AllAboutJobs es.jobs fs → Admissible (stating es fs)
+admissible_stated es fs h k = record { jobs = h.jobs; rows = h.rows; about = λ f. ⊎_elim (h.about f) (k f) }
 
-pub admissible-with : (es : Entries) (e : Entry) → Admissible es → Allowed es.jobs e → Admissible (withEntry es e)
-admissible-with es (addition l e d m) h ok = admissible-row es (addedRow l e d m) h ok.0 ok.1
-admissible-with es (other s) h ok = admissible-stated es (stated s) h ok
+pub admissible_with : (es : Entries) (e : Entry) → Admissible es → Allowed es.jobs e → Admissible (with_entry es e)
+admissible_with es (addition l e d m) h ok = admissible_row es (added_row l e d m) h ok.0 ok.1
+admissible_with es (other s) h ok = admissible_stated es (stated s) h ok
 
-pub admissible-agree : (es es' : Entries) → EntriesAgree es es' → Admissible es → Admissible es'
-admissible-agree es es' a h =
+pub admissible_agree : (es es' : Entries) → EntriesAgree es es' → Admissible es → Admissible es'
+admissible_agree es es' a h =
     record {
       jobs = omega (arith, a.jobs, h.jobs);
       rows = λ k l.
@@ -55,14 +55,14 @@ admissible-agree es es' a h =
     }
 
 -- entries that agree reach the same boards
-pub reached-agree : (es es' : Entries) (b : Board) → EntriesAgree es es' → Reached es b → Reached es' b
-reached-agree es es' b a r =
+pub reached_agree : (es es' : Entries) (b : Board) → EntriesAgree es es' → Reached es b → Reached es' b
+reached_agree es es' b a r =
     record {
       within = r.within;
       books = r.books;
       shows = record { count = r.shows.count ∙ a.jobs; at_least = agreed es es' (view b) a r.shows.at_least };
       obeys = r.obeys;
-      below = λ w h ob. r.below w (agreed es' es w (agree-sym es es' a) h) ob;
+      below = λ w h ob. r.below w (agreed es' es w (agree_sym es es' a) h) ob;
     }
 
 module _ (es : Entries) (b : Board) (e : Entry) (r : Reached es b) where
@@ -70,35 +70,35 @@ module _ (es : Entries) (b : Board) (e : Entry) (r : Reached es b) where
   moved : (w : View) → ShowsEntry es.jobs e w → ShowsEntry b.jobs e w
   moved w s = subst⁻¹ (λ n. ShowsEntry n e w) r.shows.count s
 
-  pub reached-with : (c : Board) → ClosedWith b e c → Reached (withEntry es e) c
-  reached-with c s =
+  pub reached_with : (c : Board) → ClosedWith b e c → Reached (with_entry es e) c
+  reached_with c s =
       record {
         within = s.more.within;
         books = subst⁻¹ BooksWithin s.more.books r.books;
         shows =
             record {
-              count = s.more.jobs ∙ with-jobs (shown (view b)) es e r.shows.count;
+              count = s.more.jobs ∙ with_jobs (shown (view b)) es e r.shows.count;
               at_least =
-                  with-join es (view c) e (atLeast-up (view b) (view c) s.more.above es r.shows.at_least)
+                  with_join es (view c) e (at_least_up (view b) (view c) s.more.above es r.shows.at_least)
                   (subst (λ n. ShowsEntry n e (view c)) r.shows.count s.meets.0);
             };
         obeys = s.meets.1;
         below = λ w h ob.
-            let (h', k) = with-split es w e h in
+            let (h', k) = with_split es w e h in
             s.least w (r.below w h' ob) ob (moved w k, ob);
       }
 
-  pub impossible-with : ClosedToWith b e none → Impossible (withEntry es e)
-  impossible-with s w h ob =
-      let (h', k) = with-split es w e h in
+  pub impossible_with : ClosedToWith b e none → Impossible (with_entry es e)
+  impossible_with s w h ob =
+      let (h', k) = with_split es w e h in
       s w (r.below w h' ob) ob (moved w k, ob)
 
 -- the tally is no part of what is reached
-pub reached-counted : (es : Entries) (b : Board) → Reached es b → Reached es (counted b)
-reached-counted es b r =
+pub reached_counted : (es : Entries) (b : Board) → Reached es b → Reached es (counted b)
+reached_counted es b r =
     record {
-      within = within-books b _ r.within;
-      books = within-tally b.books _ r.books (omega arith);
+      within = within_books b _ r.within;
+      books = within_tally b.books _ r.books (omega arith);
       shows = r.shows;
       obeys = r.obeys;
       below = r.below;

@@ -13,42 +13,42 @@ use Rattle.paper_rules.specs.Paper.Closed.{Contradiction}
 use Rattle.paper_closure.specs.Passes.{passes}
 use Rattle.paper_entries.specs.declared.Answer.TheVariants as Answers
 use Rattle.paper_entries.specs.declared.Entered.{Entered}
-use Rattle.paper_entries.specs.Paper.Entry.{Entry, withEntry}
-use Rattle.paper_entries.specs.Paper.Checks.{checks, firstRefusal}
+use Rattle.paper_entries.specs.Paper.Entry.{Entry, with_entry}
+use Rattle.paper_entries.specs.Paper.Checks.{checks, first_refusal}
 use Rattle.paper_entries.specs.Paper.Enter.{counted, enter}
-use Rattle.paper_entries.specs.Paper.Replies.{no_number, replyOf}
-use Rattle.paper_entries.specs.Paper.Outcome.{Outcome, by-table, impossible, accepted}
-use Rattle.paper_entries.specs.AnsweredImpossible.{by-table-middle, not-refused}
-use Rattle.paper_entries.specs.EnterOutcome.{enter-checked, enter-refused}
+use Rattle.paper_entries.specs.Paper.Replies.{no_number, reply_of}
+use Rattle.paper_entries.specs.Paper.Outcome.{Outcome, by_table, impossible, accepted}
+use Rattle.paper_entries.specs.AnsweredImpossible.{by_table_middle, not_refused}
+use Rattle.paper_entries.specs.EnterOutcome.{enter_checked, enter_refused}
 
 -- whatever the entries are that the board shows
-pub outcome-exactly : (es : Entries) (b : Board) (e : Entry) (x : Entered) → Outcome es b e x → firstRefusal (checks b.jobs e) ≡ none
-    → (replyOf x.answer ≡ no_number 8) ↔ Contradiction (withEntry es e)
-outcome-exactly es b e _ (by-table r h) g = clash (cc)
-outcome-exactly es b e _ (impossible h k) g = (λ q. k, λ k'. refl)
-outcome-exactly es b e _ (accepted h c l t) g =
-    (λ q. absurd (not-refused b.jobs e 8 q), λ k. absurd (k c l.closed))
+pub outcome_exactly : (es : Entries) (b : Board) (e : Entry) (x : Entered) → Outcome es b e x → first_refusal (checks b.jobs e) ≡ none
+    → (reply_of x.answer ≡ no_number 8) ↔ Contradiction (with_entry es e)
+outcome_exactly es b e _ (by_table r h) g = clash (cc)
+outcome_exactly es b e _ (impossible h k) g = (λ q. k, λ k'. refl)
+outcome_exactly es b e _ (accepted h c l t) g =
+    (λ q. absurd (not_refused b.jobs e 8 q), λ k. absurd (k c l.closed))
 
-pub refused-exactly : (b : Board) (e : Entry) → passes b ≡ true → firstRefusal (checks b.jobs e) ≡ none
-    → (replyOf (enter b e).answer ≡ no_number 8) ↔ Contradiction (withEntry (shown (view b)) e)
-refused-exactly b e p g = outcome-exactly (shown (view b)) b e (enter b e) (enter-checked b e p) g
+pub refused_exactly : (b : Board) (e : Entry) → passes b ≡ true → first_refusal (checks b.jobs e) ≡ none
+    → (reply_of (enter b e).answer ≡ no_number 8) ↔ Contradiction (with_entry (shown (view b)) e)
+refused_exactly b e p g = outcome_exactly (shown (view b)) b e (enter b e) (enter_checked b e p) g
 
 -- "A refusal carries its number only and alters nothing; number 8 adds one to the tally."
-abbrev pub afterRefusal : Refusal → Board → Board
-afterRefusal r b = cond (eqb (number_of r) 8) (counted b) b
+abbrev pub after_refusal : Refusal → Board → Board
+after_refusal r b = cond (eqb (number_of r) 8) (counted b) b
 
 -- of every board, also of one that check 0 refuses
-pub refused-board : (b : Board) (e : Entry) (r : Refusal) → (enter b e).answer ≡ Answers.Refused r → (enter b e).board ≡ afterRefusal r b
-refused-board b e r q = go (passes b) refl
+pub refused_board : (b : Board) (e : Entry) (r : Refusal) → (enter b e).answer ≡ Answers.Refused r → (enter b e).board ≡ after_refusal r b
+refused_board b e r q = go (passes b) refl
   where
-    other : (s : Refusal) → number_of s ≢ 8 → Answers.Refused s ≡ Answers.Refused r → b ≡ afterRefusal r b
-    other s n a = let is : s ≡ r = cc in subst (λ x. b ≡ afterRefusal x b) is (rw (ne_eqb (number_of s) 8 n))
+    other : (s : Refusal) → number_of s ≢ 8 → Answers.Refused s ≡ Answers.Refused r → b ≡ after_refusal r b
+    other s n a = let is : s ≡ r = cc in subst (λ x. b ≡ after_refusal x b) is (rw (ne_eqb (number_of s) 8 n))
 
-    ends : (x : Entered) → Outcome (shown (view b)) b e x → x.answer ≡ Answers.Refused r → x.board ≡ afterRefusal r b
-    ends _ (by-table s g) a = other s (omega (arith, by-table-middle b.jobs e s g)) a
-    ends _ (impossible g k) a = let is : Refused.Impossible ≡ r = cc in subst (λ x. counted b ≡ afterRefusal x b) is refl
-    ends _ (accepted g c l t) a = absurd (not-refused b.jobs e (number_of r) (ap replyOf a))
+    ends : (x : Entered) → Outcome (shown (view b)) b e x → x.answer ≡ Answers.Refused r → x.board ≡ after_refusal r b
+    ends _ (by_table s g) a = other s (omega (arith, by_table_middle b.jobs e s g)) a
+    ends _ (impossible g k) a = let is : Refused.Impossible ≡ r = cc in subst (λ x. counted b ≡ after_refusal x b) is refl
+    ends _ (accepted g c l t) a = absurd (not_refused b.jobs e (number_of r) (ap reply_of a))
 
-    go : (t : Bool) → passes b ≡ t → (enter b e).board ≡ afterRefusal r b
-    go true p = ends (enter b e) (enter-checked b e p) q
-    go false p = rw (enter-refused b e p) (other Refused.Board (omega arith) (cc (enter-refused b e p)))
+    go : (t : Bool) → passes b ≡ t → (enter b e).board ≡ after_refusal r b
+    go true p = ends (enter b e) (enter_checked b e p) q
+    go false p = rw (enter_refused b e p) (other Refused.Board (omega arith) (cc (enter_refused b e p)))

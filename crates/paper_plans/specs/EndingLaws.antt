@@ -6,35 +6,35 @@ use Rattle.std.proofs.Math.Decide.{ℕ_discrete}
 use Rattle.ground_arithmetic.specs.Bools.{refuted}
 use Rattle.paper_board.specs.Paper.View.{View}
 use Rattle.paper_plans.specs.Paper.Lists.{among}
-use Rattle.paper_plans.specs.Paper.Tries.{Ending, found, none, add, ◌orElse◌, try, from}
-use Rattle.paper_plans.specs.ListLaws.{none-among, among_first, among-rest, among_later}
+use Rattle.paper_plans.specs.Paper.Tries.{Ending, found, none, add, ◌or_else◌, try, from}
+use Rattle.paper_plans.specs.ListLaws.{none_among, among_first, among_rest, among_later}
 
 -- ---- tries add up
 
-pub add-zero : (o : Ending) → add 0 o ≡ o
+pub add_zero : (o : Ending) → add 0 o ≡ o
 unfolding add
-add-zero (found u ps) = ap (λ (n : ℕ). found n ps) (omega arith)
-add-zero (none u) = ap none (omega arith)
+add_zero (found u ps) = ap (λ (n : ℕ). found n ps) (omega arith)
+add_zero (none u) = ap none (omega arith)
 
-pub add-add : (s t : ℕ) (o : Ending) → add s (add t o) ≡ add (s + t) o
+pub add_add : (s t : ℕ) (o : Ending) → add s (add t o) ≡ add (s + t) o
 unfolding add
-add-add s t (found u ps) = ap (λ (n : ℕ). found n ps) (omega arith)
-add-add s t (none u) = ap none (omega arith)
+add_add s t (found u ps) = ap (λ (n : ℕ). found n ps) (omega arith)
+add_add s t (none u) = ap none (omega arith)
 
-pub add-orElse : (t : ℕ) (a b : Ending) → add t (a or_else b) ≡ add t a or_else b
-unfolding add ◌orElse◌
-add-orElse t (found u ps) b = refl
-add-orElse t (none u) b = add-add t u b
+pub add_or_else : (t : ℕ) (a b : Ending) → add t (a or_else b) ≡ add t a or_else b
+unfolding add ◌or_else◌
+add_or_else t (found u ps) b = refl
+add_or_else t (none u) b = add_add t u b
 
-pub orElse-assoc : (a b c : Ending) → (a or_else b) or_else c ≡ a or_else (b or_else c)
-unfolding ◌orElse◌
-orElse-assoc (found u ps) b c = refl
-orElse-assoc (none u) b c = sym (add-orElse u b c)
+pub or_else_assoc : (a b c : Ending) → (a or_else b) or_else c ≡ a or_else (b or_else c)
+unfolding ◌or_else◌
+or_else_assoc (found u ps) b c = refl
+or_else_assoc (none u) b c = sym (add_or_else u b c)
 
-pub orElse-none : (o : Ending) → o or_else none 0 ≡ o
-unfolding add ◌orElse◌
-orElse-none (found t ps) = refl
-orElse-none (none t) = ap none (omega arith)
+pub or_else_none : (o : Ending) → o or_else none 0 ≡ o
+unfolding add ◌or_else◌
+or_else_none (found t ps) = refl
+or_else_none (none t) = ap none (omega arith)
 
 -- ---- what is found
 
@@ -48,46 +48,46 @@ IsFound (found t ps) = Unit {0}
 IsFound (none t) = ⊥
 
 module _ (P : List ℕ → Type 0) where
-  add-if : (t : ℕ) (o : Ending) → IfFound P o → IfFound P (add t o)
+  add_if : (t : ℕ) (o : Ending) → IfFound P o → IfFound P (add t o)
   unfolding add
-  add-if t (found u ps) h = h
-  add-if t (none u) h = tt
+  add_if t (found u ps) h = h
+  add_if t (none u) h = tt
 
-  orElse-if : (a b : Ending) → IfFound P a → IfFound P b → IfFound P (a or_else b)
-  unfolding ◌orElse◌
-  orElse-if (found u ps) b h g = h
-  orElse-if (none u) b h g = add-if u b g
+  or_else_if : (a b : Ending) → IfFound P a → IfFound P b → IfFound P (a or_else b)
+  unfolding ◌or_else◌
+  or_else_if (found u ps) b h g = h
+  or_else_if (none u) b h g = add_if u b g
 
 add_is : (t : ℕ) (o : Ending) → IsFound o → IsFound (add t o)
 unfolding add
 add_is t (found u ps) h = tt
 add_is t (none u) h = h
 
-first-is : (a b : Ending) → IsFound a → IsFound (a or_else b)
-unfolding ◌orElse◌
-first-is (found u ps) b h = tt
-first-is (none u) b h = absurd h
+first_is : (a b : Ending) → IsFound a → IsFound (a or_else b)
+unfolding ◌or_else◌
+first_is (found u ps) b h = tt
+first_is (none u) b h = absurd h
 
 second_is : (a b : Ending) → IsFound b → IsFound (a or_else b)
-unfolding ◌orElse◌
+unfolding ◌or_else◌
 second_is (found u ps) b h = tt
 second_is (none u) b h = add_is u b h
 
 module _ (v : View) (order : List ℕ) (deeper : List ℕ → Ending) (ps : List ℕ) where
   -- what is found from a list of jobs was found by the try of one of them
-  pub from-if : (P : List ℕ → Type 0) (js : List ℕ)
+  pub from_if : (P : List ℕ → Type 0) (js : List ℕ)
       → ((j : ℕ) → among js j ≡ true → IfFound P (try v order deeper ps j)) → IfFound P (from v order deeper ps js)
   unfolding from
-  from-if P [] h = tt
-  from-if P (j ∷ js) h =
-      orElse-if P _ _ (add-if P 1 _ (h j (among_first j js))) (from-if P js λ k a. h k (among_later j js k a))
+  from_if P [] h = tt
+  from_if P (j ∷ js) h =
+      or_else_if P _ _ (add_if P 1 _ (h j (among_first j js))) (from_if P js λ k a. h k (among_later j js k a))
 
   -- where the try of one job finds something, it is found, or something was found before
   pub from_is : (js : List ℕ) (j : ℕ) → among js j ≡ true → IsFound (try v order deeper ps j) → IsFound (from v order deeper ps js)
   unfolding from
-  from_is [] j a h = absurd (refuted (none-among j) a)
-  from_is (i ∷ is) j a h = go (ℕ_discrete i j) λ ne. from_is is j (rw (← among-rest i is j ne) a) h
+  from_is [] j a h = absurd (refuted (none_among j) a)
+  from_is (i ∷ is) j a h = go (ℕ_discrete i j) λ ne. from_is is j (rw (← among_rest i is j ne) a) h
     where
       go : Dec (i ≡ j) → ((i ≡ j → ⊥) → IsFound (from v order deeper ps is)) → IsFound (add 1 (try v order deeper ps i) or_else from v order deeper ps is)
-      go (yes d) ih = first-is _ _ (add_is 1 _ (rw d h))
+      go (yes d) ih = first_is _ _ (add_is 1 _ (rw d h))
       go (no ne) ih = second_is _ _ (ih ne)

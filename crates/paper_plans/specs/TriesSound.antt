@@ -6,7 +6,7 @@ use mathlib.Core.List.{List, [], ◌∷◌}
 use Rattle.std.proofs.Math.Decide.{ℕ_discrete}
 use Rattle.ground_arithmetic.specs.Bools.{is_false, refuted, same_tests}
 use Rattle.ground_arithmetic.specs.Linear.{whole, plus}
-use Rattle.ground_arithmetic.specs.Time.{greater-left, greater-right}
+use Rattle.ground_arithmetic.specs.Time.{greater_left, greater_right}
 use Rattle.paper_board.specs.Paper.View.{View, Valid, Arc}
 use Rattle.paper_rules.specs.Paper.Rules.{E, D, L}
 use Rattle.paper_board.specs.Paper.Limits.{Limited}
@@ -14,55 +14,55 @@ use Rattle.paper_rules.specs.Paper.Entries.{Drawn, drawn, shown}
 use Rattle.paper_board.specs.Paper.Facts.{Fact}
 use Rattle.paper_rules.specs.Paper.Schedules.{Respects, Keeps}
 use Rattle.paper_board.specs.Paper.Tests.{valid}
-use Rattle.paper_board.specs.BoardTests.Live.{valid-yes, valid-show}
+use Rattle.paper_board.specs.BoardTests.Live.{valid_yes, valid_show}
 use Rattle.paper_plans.specs.Paper.Lists.{among}
-use Rattle.paper_plans.specs.Paper.Tries.{found, startAfter, start_in, plan_of, unplaced, tries}
-use Rattle.paper_plans.specs.ListLaws.{Distinct, none-among, among-rest, among_later}
-use Rattle.paper_plans.specs.Unplaced.{none-placed, ready-is, all_placed}
+use Rattle.paper_plans.specs.Paper.Tries.{found, start_after, start_in, plan_of, unplaced, tries}
+use Rattle.paper_plans.specs.ListLaws.{Distinct, none_among, among_rest, among_later}
+use Rattle.paper_plans.specs.Unplaced.{none_placed, ready_is, all_placed}
 use Rattle.paper_plans.specs.EndingLaws.{IfFound}
-use Rattle.paper_plans.specs.SearchReaches.{TryPlaces, Reachable, start_first, start-rest, last-and-before, search-reaches}
+use Rattle.paper_plans.specs.SearchReaches.{TryPlaces, Reachable, start_first, start_rest, last_and_before, search_reaches}
 
 -- a job starts no earlier than E
-not-early : (v : View) (ps : List ℕ) (j : ℕ) → E v j ≤ℤ startAfter v ps j
-unfolding startAfter
-not-early v [] j = omega whole
-not-early v (i ∷ ps) j = greater-left (E v j) (startAfter v ps i +ℤ L v i)
+not_early : (v : View) (ps : List ℕ) (j : ℕ) → E v j ≤ℤ start_after v ps j
+unfolding start_after
+not_early v [] j = omega whole
+not_early v (i ∷ ps) j = greater_left (E v j) (start_after v ps i +ℤ L v i)
 
 module _ (v : View) (order : List ℕ) (all : (k : ℕ) → among order k ≡ valid v k) (limits : Limited v) where
-  pub member-valid : (k : ℕ) → among order k ≡ true → Valid v k
-  member-valid k a = valid-yes v k (sym (all k) ∙ a)
+  pub member_valid : (k : ℕ) → among order k ≡ true → Valid v k
+  member_valid k a = valid_yes v k (sym (all k) ∙ a)
 
   -- a job takes time
-  pub member-takes : (k : ℕ) → among order k ≡ true → pos 1 ≤ℤ L v k
-  member-takes k a = let (l, m) = member-valid k a in ((limits.rows k).live l (omega arith)).length.low
+  pub member_takes : (k : ℕ) → among order k ≡ true → pos 1 ≤ℤ L v k
+  member_takes k a = let (l, m) = member_valid k a in ((limits.rows k).live l (omega arith)).length.low
 
   -- what holds of each job where it is placed
-  each_placed : (P : ℕ → ℤ → Type 0) → ((ps : List ℕ) (j : ℕ) → TryPlaces v order ps j → P j (startAfter v ps j))
+  each_placed : (P : ℕ → ℤ → Type 0) → ((ps : List ℕ) (j : ℕ) → TryPlaces v order ps j → P j (start_after v ps j))
       → (ps : List ℕ) → Reachable v order ps → (k : ℕ) → among ps k ≡ true → P k (start_in v ps k)
-  each_placed P h [] r k a = absurd (refuted (none-among k) a)
-  each_placed P h (j ∷ ps) (t, r) k a = last-and-before v P j ps (h ps j t) (each_placed P h ps r) k a
+  each_placed P h [] r k a = absurd (refuted (none_among k) a)
+  each_placed P h (j ∷ ps) (t, r) k a = last_and_before v P j ps (h ps j t) (each_placed P h ps r) k a
 
-  placed-valid : (ps : List ℕ) → Reachable v order ps → (k : ℕ) → among ps k ≡ true → Valid v k
-  placed-valid = each_placed (λ k z. Valid v k) λ ps j t. member-valid j t.member
+  placed_valid : (ps : List ℕ) → Reachable v order ps → (k : ℕ) → among ps k ≡ true → Valid v k
+  placed_valid = each_placed (λ k z. Valid v k) λ ps j t. member_valid j t.member
 
-  start-earliest : (ps : List ℕ) → Reachable v order ps → (k : ℕ) → among ps k ≡ true → E v k ≤ℤ start_in v ps k
-  start-earliest = each_placed (λ k z. E v k ≤ℤ z) λ ps j t. not-early v ps j
+  start_earliest : (ps : List ℕ) → Reachable v order ps → (k : ℕ) → among ps k ≡ true → E v k ≤ℤ start_in v ps k
+  start_earliest = each_placed (λ k z. E v k ≤ℤ z) λ ps j t. not_early v ps j
 
-  end-latest : (ps : List ℕ) → Reachable v order ps → (k : ℕ) → among ps k ≡ true → (start_in v ps k +ℤ L v k) ≤ℤ D v k
-  end-latest = each_placed (λ k z. (z +ℤ L v k) ≤ℤ D v k) λ ps j t. omega (whole, t.inTime)
+  end_latest : (ps : List ℕ) → Reachable v order ps → (k : ℕ) → among ps k ≡ true → (start_in v ps k +ℤ L v k) ≤ℤ D v k
+  end_latest = each_placed (λ k z. (z +ℤ L v k) ≤ℤ D v k) λ ps j t. omega (whole, t.in_time)
 
   -- no job starts before those placed earlier have ended
-  start-after : (ps : List ℕ) → Reachable v order ps → (j k : ℕ) → among ps k ≡ true → (start_in v ps k +ℤ L v k) ≤ℤ startAfter v ps j
-  unfolding startAfter
-  start-after [] r j k a = absurd (refuted (none-among k) a)
-  start-after (i ∷ ps) (t, r) j k a =
+  start_after : (ps : List ℕ) → Reachable v order ps → (j k : ℕ) → among ps k ≡ true → (start_in v ps k +ℤ L v k) ≤ℤ start_after v ps j
+  unfolding start_after
+  start_after [] r j k a = absurd (refuted (none_among k) a)
+  start_after (i ∷ ps) (t, r) j k a =
       omega (
         whole,
-        last-and-before v (λ k z. (z +ℤ L v k) ≤ℤ (startAfter v ps i +ℤ L v i)) i ps
+        last_and_before v (λ k z. (z +ℤ L v k) ≤ℤ (start_after v ps i +ℤ L v i)) i ps
             (omega whole)
-            (λ k a. omega (whole, start-after ps r i k a, member-takes i t.member, plus (startAfter v ps i) (L v i)))
+            (λ k a. omega (whole, start_after ps r i k a, member_takes i t.member, plus (start_after v ps i) (L v i)))
             k a,
-        greater-right (E v j) (startAfter v ps i +ℤ L v i),
+        greater_right (E v j) (start_after v ps i +ℤ L v i),
       )
 
   -- the last job placed, and those placed before it
@@ -71,16 +71,16 @@ module _ (v : View) (order : List ℕ) (all : (k : ℕ) → among order k ≡ va
     older k a d = refuted t.unplaced (rw d a)
 
     before_last : (k : ℕ) → among ps k ≡ true → (start_in v (j ∷ ps) k +ℤ L v k) ≤ℤ start_in v (j ∷ ps) j
-    before_last k a = rw (start_first v j ps, start-rest v j ps k (older k a)) (start-after ps r j k a)
+    before_last k a = rw (start_first v j ps, start_rest v j ps k (older k a)) (start_after ps r j k a)
 
   apart : (ps : List ℕ) → Reachable v order ps → (i k : ℕ) → among ps i ≡ true → among ps k ≡ true → i ≢ k
       → ((start_in v ps i +ℤ L v i) ≤ℤ start_in v ps k) ⊎ ((start_in v ps k +ℤ L v k) ≤ℤ start_in v ps i)
-  apart [] r i k a b ne = absurd (refuted (none-among i) a)
+  apart [] r i k a b ne = absurd (refuted (none_among i) a)
   apart (j ∷ ps) (t, r) i k a b ne =
       go (ℕ_discrete j i) (ℕ_discrete j k) λ m n. apart ps r i k (earlier i a m) (earlier k b n) ne
     where
       earlier : (m : ℕ) → among (j ∷ ps) m ≡ true → j ≢ m → among ps m ≡ true
-      earlier m e d = sym (among-rest j ps m d) ∙ e
+      earlier m e d = sym (among_rest j ps m d) ∙ e
 
       Apart : ℤ → ℤ → Type 0
       Apart x y = ((x +ℤ L v i) ≤ℤ y) ⊎ ((y +ℤ L v k) ≤ℤ x)
@@ -90,45 +90,45 @@ module _ (v : View) (order : List ℕ) (all : (k : ℕ) → among order k ≡ va
       go (yes d) (yes e) ih = absurd (ne (sym d ∙ e))
       go (yes d) (no n) ih = inr (rw (← d) (before_last j ps t r k (earlier k b n)))
       go (no m) (yes e) ih = inl (rw (← e) (before_last j ps t r i (earlier i a m)))
-      go (no m) (no n) ih = rw (start-rest v j ps i m, start-rest v j ps k n) (ih m n)
+      go (no m) (no n) ih = rw (start_rest v j ps i m, start_rest v j ps k n) (ih m n)
 
   -- every job with an arc to a placed job was placed before it
   along : (ps : List ℕ) → Reachable v order ps → (i k : ℕ) → Arc v i k → among order i ≡ true → among ps k ≡ true
       → (among ps i ≡ true) × ((start_in v ps i +ℤ L v i) ≤ℤ start_in v ps k)
-  along [] r i k arc m a = absurd (refuted (none-among k) a)
-  along (j ∷ ps) (t, r) i k arc m a = go (ℕ_discrete j k) λ n. along ps r i k arc m (sym (among-rest j ps k n) ∙ a)
+  along [] r i k arc m a = absurd (refuted (none_among k) a)
+  along (j ∷ ps) (t, r) i k arc m a = go (ℕ_discrete j k) λ n. along ps r i k arc m (sym (among_rest j ps k n) ∙ a)
     where
       go : Dec (j ≡ k) → (j ≢ k → (among ps i ≡ true) × ((start_in v ps i +ℤ L v i) ≤ℤ start_in v ps k))
           → (among (j ∷ ps) i ≡ true) × ((start_in v (j ∷ ps) i +ℤ L v i) ≤ℤ start_in v (j ∷ ps) k)
       go (yes d) ih =
-          let b = (ready-is v order ps j).yes t.ready i m (rw d arc) in
+          let b = (ready_is v order ps j).yes t.ready i m (rw d arc) in
           (among_later j ps i b, rw (← d) (before_last j ps t r i b))
       go (no n) ih =
           let (b, h) = ih n in
-          (among_later j ps i b, rw (start-rest v j ps i (older j ps t r i b), start-rest v j ps k n) h)
+          (among_later j ps i b, rw (start_rest v j ps i (older j ps t r i b), start_rest v j ps k n) h)
 
-  reachable-keeps : (ps : List ℕ) → Reachable v order ps → length (unplaced v order ps) ≡ 0 → Keeps v (plan_of v ps)
-  reachable-keeps ps r e =
+  reachable_keeps : (ps : List ℕ) → Reachable v order ps → length (unplaced v order ps) ≡ 0 → Keeps v (plan_of v ps)
+  reachable_keeps ps r e =
       record {
-        added = λ j a. (placed-valid ps r j a).0;
-        valid = λ j l m. all_placed v order ps e j (all j ∙ valid-show v j (l, m));
-        invalid = λ j l m. is_false (among ps j) λ a. omega (arith, placed-valid ps r j a);
-        earliest = start-earliest ps r;
-        latest = end-latest ps r;
+        added = λ j a. (placed_valid ps r j a).0;
+        valid = λ j l m. all_placed v order ps e j (all j ∙ valid_show v j (l, m));
+        invalid = λ j l m. is_false (among ps j) λ a. omega (arith, placed_valid ps r j a);
+        earliest = start_earliest ps r;
+        latest = end_latest ps r;
         facts = facts;
         apart = apart ps r;
       }
     where
       facts : (f : Fact) → Drawn v f → Respects (shown v) (plan_of v ps) f
-      facts _ (drawn i k a) = λ pi pk. (along ps r i k a (all i ∙ valid-show v i (placed-valid ps r i pi)) pk).1
+      facts _ (drawn i k a) = λ pi pk. (along ps r i k a (all i ∙ valid_show v i (placed_valid ps r i pi)) pk).1
 
   -- the plan found is a schedule, of all valid jobs and no others
-  pub tries-sound : Distinct order → (T : ℕ) (ps : List ℕ) → tries v order ≡ found T ps
+  pub tries_sound : Distinct order → (T : ℕ) (ps : List ℕ) → tries v order ≡ found T ps
       → Keeps v (plan_of v ps) × ((k : ℕ) → among ps k ≡ valid v k)
-  tries-sound d T ps e =
-      let (r, z) = subst (IfFound _) e (search-reaches v order d (length order) [] tt (ap length (none-placed v order))) in (
-        reachable-keeps ps r z,
+  tries_sound d T ps e =
+      let (r, z) = subst (IfFound _) e (search_reaches v order d (length order) [] tt (ap length (none_placed v order))) in (
+        reachable_keeps ps r z,
         λ k. same_tests (among ps k) (valid v k)
-            (λ a. valid-show v k (placed-valid ps r k a))
+            (λ a. valid_show v k (placed_valid ps r k a))
             (λ h. all_placed v order ps z k (all k ∙ h)),
       )

@@ -4,30 +4,30 @@ use Rattle.std.proofs.Math.Path.{subst⁻¹}
 use Rattle.std.proofs.Math.Option.{none, some}
 use Rattle.std.proofs.Common.{arith}
 use Rattle.ground_sets.specs.Bit.{bit, with, without, union, difference, singleton}
-use Rattle.ground_arithmetic.specs.Linear.{eqZ}
+use Rattle.ground_arithmetic.specs.Linear.{eq_z}
 use Rattle.ground_arithmetic.specs.Sum.{sum, count}
 use Rattle.paper_board.specs.declared.Board.{Board}
 use Rattle.paper_board.specs.declared.Refusal.TheVariants as Refused
 use Rattle.paper_board.specs.declared.Books.{Books}
-use Rattle.paper_board.specs.Paper.Limits.{emptyBoard}
-use Rattle.paper_board.specs.Paper.Parts.{ofParts, emptyBooks, withTally}
+use Rattle.paper_board.specs.Paper.Limits.{empty_board}
+use Rattle.paper_board.specs.Paper.Parts.{of_parts, empty_books, with_tally}
 use Rattle.paper_board.specs.Paper.Tests.{live, valid, between, implies}
 use Rattle.paper_rules.specs.Paper.Rules.{E, D}
 use Rattle.paper_board.specs.Paper.View.{Live, Valid, Invalid, Arc, view}
-use Rattle.paper_board.specs.BoardTests.WithinLimits.{all, isZero, fits, isZeroRow, full, shape, holdsJob, holdsNothing, joinable, agrees, withinLimits}
-use Rattle.paper_rules.specs.Update.Updates.{exclude, tighten, update, ◌andThen◌}
-use Rattle.paper_closure.specs.Find.{guard, ◌orElse◌, first, any, beyond, tooLate, joined, pushers, pushed, push, next, find}
+use Rattle.paper_board.specs.BoardTests.WithinLimits.{all, is_zero, fits, is_zero_row, full, shape, holds_job, holds_nothing, joinable, agrees, within_limits}
+use Rattle.paper_rules.specs.Update.Updates.{exclude, tighten, update, ◌and_then◌}
+use Rattle.paper_closure.specs.Find.{guard, ◌or_else◌, first, any, beyond, too_late, joined, pushers, pushed, push, next, find}
 use Rattle.paper_closure.specs.Closure.{close, closure}
-use Rattle.paper_closure.specs.Passes.{nothingLeft, passes}
-use Rattle.paper_entries.specs.Paper.Replies.{ok-number, no_number, replyOf}
+use Rattle.paper_closure.specs.Passes.{nothing_left, passes}
+use Rattle.paper_entries.specs.Paper.Replies.{ok_number, no_number, reply_of}
 use Rattle.paper_entries.specs.Paper.Entry.{Entry}
-use Rattle.paper_entries.specs.Paper.Checks.{checks, firstRefusal}
-use Rattle.paper_entries.specs.Paper.Enter.{updateAll, raw, closureWith, enter}
-use Rattle.paper_entries.specs.Paper.Sequence.{byValue, inPlace, Call, after, accepted, impossibles, finalBoard, acceptedBy}
+use Rattle.paper_entries.specs.Paper.Checks.{checks, first_refusal}
+use Rattle.paper_entries.specs.Paper.Enter.{update_all, raw, closure_with, enter}
+use Rattle.paper_entries.specs.Paper.Sequence.{byValue, inPlace, Call, after, accepted, impossibles, final_board, accepted_by}
 use Rattle.paper_plans.specs.Paper.Lists.{range, keep, every, among}
-use Rattle.paper_plans.specs.Paper.Tries as Tries
-use Rattle.paper_plans.specs.Paper.Tries.{add, startAfter, from, search, tries}
-use Rattle.paper_plans.specs.Paper.Planner.{validJobs}
+use Rattle.paper_plans.specs.Paper.Tries
+use Rattle.paper_plans.specs.Paper.Tries.{add, start_after, from, search, tries}
+use Rattle.paper_plans.specs.Paper.Planner.{valid_jobs}
 use Rattle.paper_requests.specs.Paper.Requests.{entry, refusal}
 use Rattle.paper_requests.specs.SampleEntries.{job, undecided, arrow, marked, cut_to}
 
@@ -36,8 +36,8 @@ use Rattle.paper_requests.specs.SampleEntries.{job, undecided, arrow, marked, cu
 abbrev pub called : Entry → Call
 called e = record { manner = byValue; entry = e }
 
-abbrev pub calledInPlace : Entry → Call
-calledInPlace e = record { manner = inPlace; entry = e }
+abbrev pub called_in_place : Entry → Call
+called_in_place e = record { manner = inPlace; entry = e }
 
 abbrev pub calls : List Entry → List Call
 calls [] = []
@@ -49,7 +49,7 @@ booked = job 10 0 100 ∷ job 20 0 100 ∷ job 5 0 100 ∷ undecided 5 0 100 ∷
 
 -- then job 0 before job 1 before job 2; an arc from a job to itself is refused (3), and a cut that leaves job 2 too little room (8)
 abbrev pub day : List Call
-day = calls booked ++ calledInPlace (arrow 0 1) ∷ called (arrow 2 2) ∷ called (arrow 1 2) ∷ calledInPlace (cut_to 2 0 34) ∷ []
+day = calls booked ++ called_in_place (arrow 0 1) ∷ called (arrow 2 2) ∷ called (arrow 1 2) ∷ called_in_place (cut_to 2 0 34) ∷ []
 
 -- the arcs the other way round, and one of them once more
 abbrev pub swapped : List Call
@@ -58,24 +58,24 @@ swapped = calls (booked ++ arrow 1 2 ∷ arrow 0 1 ∷ [])
 abbrev pub repeated : List Call
 repeated = calls (booked ++ arrow 1 2 ∷ arrow 0 1 ∷ arrow 1 2 ∷ [])
 
-abbrev pub computedDay : Board
-computedDay =
-    ofParts 4
+abbrev pub computed_day : Board
+computed_day =
+    of_parts 4
     (pos 10 ∷ pos 20 ∷ pos 5 ∷ pos 5 ∷ replicate 60 (pos 0))
     (pos 0 ∷ pos 10 ∷ pos 30 ∷ pos 0 ∷ replicate 60 (pos 0))
     (pos 75 ∷ pos 95 ∷ pos 100 ∷ pos 100 ∷ replicate 60 (pos 0))
     (1 ∷ 1 ∷ 1 ∷ 0 ∷ replicate 60 0)
     (6 ∷ 4 ∷ replicate 62 0)
     (0 ∷ 1 ∷ 3 ∷ replicate 61 0)
-    (withTally emptyBooks 1)
+    (with_tally empty_books 1)
 
 -- books with a full tally
-abbrev pub fullBooks : Books
-fullBooks = withTally emptyBooks 1000000
+abbrev pub full_books : Books
+full_books = with_tally empty_books 1000000
 
 -- a job, and one that is longer than its window (8)
-abbrev pub tooLong : List Call
-tooLong = calls (job 10 0 100 ∷ job 10000 0 9999 ∷ [])
+abbrev pub too_long : List Call
+too_long = calls (job 10 0 100 ∷ job 10000 0 9999 ∷ [])
 
 -- a job whose window ends where the next one's begins, one later, and an undecided job that doesn't fit its own
 abbrev pub apart : List Call
@@ -104,10 +104,10 @@ pub record DayFacts (b : Board) : Type 0 where
   pub added : refusal b (entry (job 1 0 100)) ≡ none
   pub validated : refusal b (entry (marked 3 1)) ≡ none
   pub cut : refusal b (entry (cut_to 2 0 34)) ≡ some 8
-  pub markChecks : firstRefusal (checks b.jobs (marked 3 1)) ≡ none
-  pub cutChecks : firstRefusal (checks b.jobs (cut_to 2 0 34)) ≡ none
-  pub sameChecks : firstRefusal (checks b.jobs (arrow 2 2)) ≡ some Refused.Same
-  pub found : tries (view b) (validJobs (view b)) ≡ Tries.found 3 (2 ∷ 1 ∷ 0 ∷ [])
+  pub mark_checks : first_refusal (checks b.jobs (marked 3 1)) ≡ none
+  pub cut_checks : first_refusal (checks b.jobs (cut_to 2 0 34)) ≡ none
+  pub same_checks : first_refusal (checks b.jobs (arrow 2 2)) ≡ some Refused.Same
+  pub found : tries (view b) (valid_jobs (view b)) ≡ Tries.found 3 (2 ∷ 1 ∷ 0 ∷ [])
 
 -- of the board after jobs that lie apart
 pub record ApartFacts (b : Board) : Type 0 where
@@ -118,20 +118,20 @@ pub record ApartFacts (b : Board) : Type 0 where
   pub later : E (view b) 2 ≡ pos 25
 
 pub record Computed : Type 0 where
-  pub board : finalBoard emptyBooks day ≡ computedDay
-  pub facts : DayFacts computedDay
-  pub apart : ApartFacts (finalBoard emptyBooks apart)
-  pub accepted : acceptedBy emptyBooks day ≡ booked ++ arrow 0 1 ∷ arrow 1 2 ∷ []
-  pub swapped : acceptedBy fullBooks swapped ≡ booked ++ arrow 1 2 ∷ arrow 0 1 ∷ []
-  pub repeated : acceptedBy fullBooks repeated ≡ (booked ++ arrow 1 2 ∷ arrow 0 1 ∷ []) ++ arrow 1 2 ∷ []
-  pub impossibles : impossibles (emptyBoard fullBooks) day ≡ 1
+  pub board : final_board empty_books day ≡ computed_day
+  pub facts : DayFacts computed_day
+  pub apart : ApartFacts (final_board empty_books apart)
+  pub accepted : accepted_by empty_books day ≡ booked ++ arrow 0 1 ∷ arrow 1 2 ∷ []
+  pub swapped : accepted_by full_books swapped ≡ booked ++ arrow 1 2 ∷ arrow 0 1 ∷ []
+  pub repeated : accepted_by full_books repeated ≡ (booked ++ arrow 1 2 ∷ arrow 0 1 ∷ []) ++ arrow 1 2 ∷ []
+  pub impossibles : impossibles (empty_board full_books) day ≡ 1
   -- of two calls, the first is accepted and the second impossible
-  pub first : replyOf (enter (emptyBoard emptyBooks) (job 10 0 100)).answer ≡ ok-number 0
-  pub second : replyOf (enter (enter (emptyBoard emptyBooks) (job 10 0 100)).board (job 10000 0 9999)).answer ≡ no_number 8
-  pub none : tries (view (finalBoard emptyBooks crowded)) (validJobs (view (finalBoard emptyBooks crowded))) ≡ Tries.none 15
+  pub first : reply_of (enter (empty_board empty_books) (job 10 0 100)).answer ≡ ok_number 0
+  pub second : reply_of (enter (enter (empty_board empty_books) (job 10 0 100)).board (job 10000 0 9999)).answer ≡ no_number 8
+  pub none : tries (view (final_board empty_books crowded)) (valid_jobs (view (final_board empty_books crowded))) ≡ Tries.none 15
 
 pub computed : Computed
-unfolding eqZ bit with without union difference singleton sum all implies between isZero fits isZeroRow full shape holdsJob holdsNothing joinable agrees withinLimits live valid exclude tighten update ◌andThen◌ guard ◌orElse◌ first any beyond tooLate joined pushers pushed push next find close closure nothingLeft passes firstRefusal updateAll raw closureWith enter after accepted impossibles count range keep every among add Tries.◌orElse◌ startAfter from search
+unfolding eq_z bit with without union difference singleton sum all implies between is_zero fits is_zero_row full shape holds_job holds_nothing joinable agrees within_limits live valid exclude tighten update ◌and_then◌ guard ◌or_else◌ first any beyond too_late joined pushers pushed push next find close closure nothing_left passes first_refusal update_all raw closure_with enter after accepted impossibles count range keep every among add Tries.◌or_else◌ start_after from search
 computed =
     record {
       board = refl;
@@ -151,9 +151,9 @@ computed =
             added = refl;
             validated = refl;
             cut = refl;
-            markChecks = refl;
-            cutChecks = refl;
-            sameChecks = refl;
+            mark_checks = refl;
+            cut_checks = refl;
+            same_checks = refl;
             found = refl;
           };
       apart =
@@ -173,5 +173,5 @@ computed =
       none = refl;
     }
 
-pub day-facts : DayFacts (finalBoard emptyBooks day)
-day-facts = subst⁻¹ DayFacts computed.board computed.facts
+pub day_facts : DayFacts (final_board empty_books day)
+day_facts = subst⁻¹ DayFacts computed.board computed.facts

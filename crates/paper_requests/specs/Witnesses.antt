@@ -8,47 +8,47 @@ use mathlib.Core.List.{List, [], ◌∷◌, Memᴰ}
 use Rattle.std.proofs.Math.Option.{some}
 use Rattle.std.proofs.lemmas.List.{get_or-replicate}
 use Rattle.ground_sets.specs.Bit.{bit, with, without, union, difference, singleton}
-use Rattle.ground_arithmetic.specs.Linear.{eqZ}
+use Rattle.ground_arithmetic.specs.Linear.{eq_z}
 use Rattle.ground_arithmetic.specs.Sum.{sum, count}
 use Rattle.paper_board.specs.declared.Board.{Board}
 use Rattle.paper_board.specs.declared.Refusal.TheVariants as Refused
-use Rattle.paper_board.specs.Paper.Limits.{jobLimit, tallyLimit, emptyBoard}
-use Rattle.paper_board.specs.Paper.Parts.{ofParts, emptyBooks, withTally}
+use Rattle.paper_board.specs.Paper.Limits.{job_limit, tally_limit, empty_board}
+use Rattle.paper_board.specs.Paper.Parts.{of_parts, empty_books, with_tally}
 use Rattle.paper_board.specs.Paper.Tests.{live, valid, between, implies}
-use Rattle.paper_board.specs.BoardTests.WithinLimits.{all, isZero, fits, isZeroRow, full, shape, holdsJob, holdsNothing, joinable, agrees, withinLimits}
+use Rattle.paper_board.specs.BoardTests.WithinLimits.{all, is_zero, fits, is_zero_row, full, shape, holds_job, holds_nothing, joinable, agrees, within_limits}
 use Rattle.paper_board.specs.Paper.View.{view}
-use Rattle.paper_rules.specs.Order.Empty.{within-emptyBooks, idle-obeys}
-use Rattle.paper_board.specs.BoardTests.LimitsDecided.{limits-yes}
-use Rattle.paper_rules.specs.Update.Updates.{exclude, tighten, update, ◌andThen◌}
-use Rattle.paper_closure.specs.Find.{guard, ◌orElse◌, first, any, beyond, tooLate, joined, pushers, pushed, push, next, find}
+use Rattle.paper_rules.specs.Order.Empty.{within_empty_books, idle_obeys}
+use Rattle.paper_board.specs.BoardTests.LimitsDecided.{limits_yes}
+use Rattle.paper_rules.specs.Update.Updates.{exclude, tighten, update, ◌and_then◌}
+use Rattle.paper_closure.specs.Find.{guard, ◌or_else◌, first, any, beyond, too_late, joined, pushers, pushed, push, next, find}
 use Rattle.paper_closure.specs.Closure.{close, closure}
-use Rattle.paper_closure.specs.Passes.{nothingLeft, passes}
-use Rattle.paper_closure.specs.PassesClosed.{obeys-passes}
+use Rattle.paper_closure.specs.Passes.{nothing_left, passes}
+use Rattle.paper_closure.specs.PassesClosed.{obeys_passes}
 use Rattle.paper_entries.specs.Paper.Entry.{cut, addition, other}
-use Rattle.paper_entries.specs.Paper.Checks.{firstRefusal}
-use Rattle.paper_entries.specs.Paper.Enter.{updateAll, raw, closureWith, enter}
-use Rattle.paper_entries.specs.Paper.Looking as Looking
-use Rattle.paper_plans.specs.Paper.Planner as Planner
-use Rattle.paper_requests.specs.RefusalLaws.{refused-table}
+use Rattle.paper_entries.specs.Paper.Checks.{first_refusal}
+use Rattle.paper_entries.specs.Paper.Enter.{update_all, raw, closure_with, enter}
+use Rattle.paper_entries.specs.Paper.Looking
+use Rattle.paper_plans.specs.Paper.Planner
+use Rattle.paper_requests.specs.RefusalLaws.{refused_table}
 use Rattle.paper_requests.specs.SampleEntries.{job, arrow, marked, cut_to}
-use Rattle.paper_requests.specs.Samples.{computedDay}
-use Rattle.paper_requests.specs.Paper.Requests.{Request, entry, row, pair, plan, Sort, an-addition, an-arc, a-mark, a-cut, a-row, a_pair, a-plan, sortOf, refusalsOf, refusal, Met}
+use Rattle.paper_requests.specs.Samples.{computed_day}
+use Rattle.paper_requests.specs.Paper.Requests.{Request, entry, row, pair, plan, Sort, an-addition, an-arc, a-mark, a-cut, a-row, a_pair, a-plan, sort_of, refusals_of, refusal, Met}
 
 -- ---- the boards
 
-abbrev allInvalid : Board
-allInvalid =
-    let zeros = replicate jobLimit (pos 0) in
-    ofParts jobLimit zeros zeros zeros (replicate jobLimit 2) (replicate jobLimit 0) (replicate jobLimit 0) emptyBooks
+abbrev all_invalid : Board
+all_invalid =
+    let zeros = replicate job_limit (pos 0) in
+    of_parts job_limit zeros zeros zeros (replicate job_limit 2) (replicate job_limit 0) (replicate job_limit 0) empty_books
 
 -- it passes check 0, since no job on it is live
-full-passes : passes allInvalid ≡ true
-unfolding eqZ bit all implies isZero isZeroRow full shape holdsJob holdsNothing joinable agrees withinLimits live
-full-passes =
-    obeys-passes allInvalid (limits-yes allInvalid refl) within-emptyBooks (idle-obeys (view allInvalid) λ j (l, m). m (get_or-replicate jobLimit j 2 0 l))
+full_passes : passes all_invalid ≡ true
+unfolding eq_z bit all implies is_zero is_zero_row full shape holds_job holds_nothing joinable agrees within_limits live
+full_passes =
+    obeys_passes all_invalid (limits_yes all_invalid refl) within_empty_books (idle_obeys (view all_invalid) λ j (l, m). m (get_or-replicate job_limit j 2 0 l))
 
-abbrev overTallied : Board
-overTallied = emptyBoard (withTally emptyBooks (suc tallyLimit))
+abbrev over_tallied : Board
+over_tallied = empty_board (with_tally empty_books (suc tally_limit))
 
 -- ---- the calls
 
@@ -58,50 +58,50 @@ data EachMet (s : Sort) : List ℕ → Type 0 where
   done : EachMet s []
   ◌also◌ : {r : ℕ} {rs : List ℕ} → Met s r → EachMet s rs → EachMet s (r ∷ rs)
 
-meets : (b : Board) (q : Request) (r : ℕ) → refusal b q ≡ some r → Met (sortOf q) r
+meets : (b : Board) (q : Request) (r : ℕ) → refusal b q ≡ some r → Met (sort_of q) r
 meets b q r e = record { board = b; request = q; sort = refl; refused = e }
 
-table : (s : Sort) → EachMet s (refusalsOf s)
-unfolding eqZ bit with without union difference singleton sum all implies between isZero fits isZeroRow full shape holdsJob holdsNothing joinable agrees withinLimits live valid exclude tighten update ◌andThen◌ guard ◌orElse◌ first any beyond tooLate joined pushers pushed push next find close closure nothingLeft passes firstRefusal updateAll raw closureWith enter Looking.row Looking.pair count Planner.plan
+table : (s : Sort) → EachMet s (refusals_of s)
+unfolding eq_z bit with without union difference singleton sum all implies between is_zero fits is_zero_row full shape holds_job holds_nothing joinable agrees within_limits live valid exclude tighten update ◌and_then◌ guard ◌or_else◌ first any beyond too_late joined pushers pushed push next find close closure nothing_left passes first_refusal update_all raw closure_with enter Looking.row Looking.pair count Planner.plan
 table an-addition =
-    meets overTallied (entry (job 10 0 100)) 0 refl
-    also meets allInvalid (entry (job 10 0 100)) 1 (refused-table allInvalid (entry (job 10 0 100)) Refused.Full full-passes refl)
-    also meets computedDay (entry (job 0 0 100)) 4 refl
-    also meets computedDay (entry (job 10 0 500001)) 5 refl
-    also meets computedDay (entry (job 10 1 0)) 6 refl
-    also meets computedDay (entry (addition (pos 10) (pos 0) (pos 100) (pos 2))) 7 refl
-    also meets computedDay (entry (job 10 0 9)) 8 refl
+    meets over_tallied (entry (job 10 0 100)) 0 refl
+    also meets all_invalid (entry (job 10 0 100)) 1 (refused_table all_invalid (entry (job 10 0 100)) Refused.Full full_passes refl)
+    also meets computed_day (entry (job 0 0 100)) 4 refl
+    also meets computed_day (entry (job 10 0 500001)) 5 refl
+    also meets computed_day (entry (job 10 1 0)) 6 refl
+    also meets computed_day (entry (addition (pos 10) (pos 0) (pos 100) (pos 2))) 7 refl
+    also meets computed_day (entry (job 10 0 9)) 8 refl
     also done
 table an-arc =
-    meets overTallied (entry (arrow 0 1)) 0 refl
-    also meets computedDay (entry (arrow 0 4)) 2 refl
-    also meets computedDay (entry (arrow 0 0)) 3 refl
-    also meets computedDay (entry (arrow 1 0)) 8 refl
+    meets over_tallied (entry (arrow 0 1)) 0 refl
+    also meets computed_day (entry (arrow 0 4)) 2 refl
+    also meets computed_day (entry (arrow 0 0)) 3 refl
+    also meets computed_day (entry (arrow 1 0)) 8 refl
     also done
 table a-mark =
-    meets overTallied (entry (marked 0 1)) 0 refl
-    also meets computedDay (entry (marked 4 1)) 2 refl
-    also meets computedDay (entry (marked 0 0)) 7 refl
-    also meets computedDay (entry (marked 0 2)) 8 refl
+    meets over_tallied (entry (marked 0 1)) 0 refl
+    also meets computed_day (entry (marked 4 1)) 2 refl
+    also meets computed_day (entry (marked 0 0)) 7 refl
+    also meets computed_day (entry (marked 0 2)) 8 refl
     also done
 table a-cut =
-    meets overTallied (entry (cut_to 0 0 100)) 0 refl
-    also meets computedDay (entry (other (cut (negsuc 0) (pos 0) (pos 100)))) 2 refl
-    also meets computedDay (entry (other (cut (pos 0) (negsuc 500000) (pos 100)))) 5 refl
-    also meets computedDay (entry (cut_to 0 1 0)) 6 refl
-    also meets computedDay (entry (cut_to 0 0 9)) 8 refl
+    meets over_tallied (entry (cut_to 0 0 100)) 0 refl
+    also meets computed_day (entry (other (cut (negsuc 0) (pos 0) (pos 100)))) 2 refl
+    also meets computed_day (entry (other (cut (pos 0) (negsuc 500000) (pos 100)))) 5 refl
+    also meets computed_day (entry (cut_to 0 1 0)) 6 refl
+    also meets computed_day (entry (cut_to 0 0 9)) 8 refl
     also done
-table a-row = meets overTallied (row (pos 0)) 0 refl also meets computedDay (row (pos 4)) 2 refl also done
+table a-row = meets over_tallied (row (pos 0)) 0 refl also meets computed_day (row (pos 4)) 2 refl also done
 table a_pair =
-    meets overTallied (pair (pos 0) (pos 1)) 0 refl
-    also meets computedDay (pair (pos 0) (pos 4)) 2 refl
-    also meets computedDay (pair (pos 1) (pos 1)) 3 refl
+    meets over_tallied (pair (pos 0) (pos 1)) 0 refl
+    also meets computed_day (pair (pos 0) (pos 4)) 2 refl
+    also meets computed_day (pair (pos 1) (pos 1)) 3 refl
     also done
-table a-plan = meets overTallied (plan (pos 0)) 0 refl also meets computedDay (plan (negsuc 0)) 9 refl also done
+table a-plan = meets over_tallied (plan (pos 0)) 0 refl also meets computed_day (plan (negsuc 0)) 9 refl also done
 
-of-each : (s : Sort) (rs : List ℕ) → EachMet s rs → (r : ℕ) → Memᴰ r rs → Met s r
-of-each s _ done r m = absurd (Memᴰ.not-nil m)
-of-each s _ (h also hs) r m = ⊎_elim (λ q. subst⁻¹ (Met s) q h) (of-each s _ hs r) (Memᴰ.cases_cons m)
+of_each : (s : Sort) (rs : List ℕ) → EachMet s rs → (r : ℕ) → Memᴰ r rs → Met s r
+of_each s _ done r m = absurd (Memᴰ.not-nil m)
+of_each s _ (h also hs) r m = ⊎_elim (λ q. subst⁻¹ (Met s) q h) (of_each s _ hs r) (Memᴰ.cases_cons m)
 
-pub witnesses : (s : Sort) (r : ℕ) → Memᴰ r (refusalsOf s) → Met s r
-witnesses s r = of-each s (refusalsOf s) (table s) r
+pub witnesses : (s : Sort) (r : ℕ) → Memᴰ r (refusals_of s) → Met s r
+witnesses s r = of_each s (refusals_of s) (table s) r

@@ -45,10 +45,10 @@ use Rattle.paper_entries.specs.contracts.Entered as E
 use Rattle.paper_entries.proofs.Entered.TheLaws as E'
 use Rattle.call_in_place.proofs.Arguments.{Values, owned_by, slots, kept, dropped, gone, rows, values, spells, told, given, Fit, unsaid}
 use Rattle.call_in_place.proofs.Arguments.{unasked, Had, had, gives_all}
-use Rattle.call_in_place.proofs.Boards.{board-val, IsBoard, board-typed}
+use Rattle.call_in_place.proofs.Boards.{board_val, IsBoard, board_typed}
 use Rattle.call_in_place.proofs.Called.{holds, states}
-use Rattle.call_in_place.proofs.Carried.{by_value, by-reference, Carried}
-use Rattle.call_in_place.proofs.Cells.{locals, count, past, copies, other, alloc_all, pass_all, free_all, look-all}
+use Rattle.call_in_place.proofs.Carried.{by_value, by_reference, Carried}
+use Rattle.call_in_place.proofs.Cells.{locals, count, past, copies, other, alloc_all, pass_all, free_all, look_all}
 use Rattle.call_in_place.proofs.Handed.{answer, both}
 use Rattle.call_in_place.proofs.InPlace as in_place
 use Rattle.test_manners.proofs.Lent.{lends}
@@ -115,10 +115,10 @@ module _ {m : ℕ} (cs : List (Carried m)) where
         us = given by_value κs cs a
 
         abbrev args : List Val
-        args = board-val h ∷ flat (rows by_value κs cs) us
+        args = board_val h ∷ flat (rows by_value κs cs) us
 
         abbrev y : (walk_of 𝓛 keeping stayed ensures).Ghost
-        y = ((κs, qs, tt, (h, a), (board-val h ∷ [], us)), tt)
+        y = ((κs, qs, tt, (h, a), (board_val h ∷ [], us)), tt)
 
         abbrev Post : Val → SProp 𝓤
         Post = (walk_of 𝓛 keeping stayed ensures).post y
@@ -128,49 +128,49 @@ module _ {m : ℕ} (cs : List (Carried m)) where
 
         -- what the function gives
         module _ (r : Answer) (d : Board) (is-r : Is answer.Row r (answer.val r ∷ [])) (is-d : IsBoard d) where
-          abbrev entered-val : Val
-          entered-val = LL.val E.the_type E'.the_laws (both r d)
+          abbrev entered_val : Val
+          entered_val = LL.val E.the_type E'.the_laws (both r d)
 
-          is-entered : Is E.the_row (both r d) (entered-val ∷ [])
-          is-entered = LL.owes E.the_type E'.the_laws (both r d) (is-r, (is-d, tt))
+          is_entered : Is E.the_row (both r d) (entered_val ∷ [])
+          is_entered = LL.owes E.the_type E'.the_laws (both r d) (is-r, (is-d, tt))
 
-          exits : Q h zs (both r d) → ent 𝓤 (⋆ 𝓛 (tokens ∷ [])) (Post entered-val)
+          exits : Q h zs (both r d) → ent 𝓤 (⋆ 𝓛 (tokens ∷ [])) (Post entered_val)
           exits e =
               qed 𝓛 (tokens ∷ []) ∵
-              suffices ! _ (ends_at 𝓛 keeping stayed ensures y entered-val (both r d) (tt, unsaid by_value κs cs a)
+              suffices ! _ (ends_at 𝓛 keeping stayed ensures y entered_val (both r d) (tt, unsaid by_value κs cs a)
               (tt, unasked by_value κs cs a)) $
               states ! (holds 𝓤 e) $ frame ! $
               use0 𝓛 (‵ (Had by_value κs cs a)) (had by_value κs 𝓛 cs a) $ nothing ! $ fjoin ! $ frame ! $
-              owned ! E.the_row (Is E.the_row) (LL.makes E.the_type E'.the_plain 𝓛) (both r d) (entered-val ∷ [])
-              is-entered $ done !
+              owned ! E.the_row (Is E.the_row) (LL.makes E.the_type E'.the_plain 𝓛) (both r d) (entered_val ∷ [])
+              is_entered $ done !
 
         module _ (C : Calls 𝓤 H) (Λ : Loops 𝓤 H) (fm : FmC 𝓤 H 𝓛.laws C) (callee : Name)
             (known : Triple 𝓤 (C callee) InPlace) where
           walk : ent 𝓤 (on_entry 𝓛 keeping.signature κs qs y.0.3 y.0.4) (WpFn 𝓤 H C Λ (function callee) args Post)
           walk =
-              qed 𝓛 (tokens ∷ ‵ (owns (B.the_row ∷ rows by_value κs cs) (h, a) (board-val h ∷ [], us)) ∷ []) ∵
+              qed 𝓛 (tokens ∷ ‵ (owns (B.the_row ∷ rows by_value κs cs) (h, a) (board_val h ∷ [], us)) ∷ []) ∵
               move ! (1 ∷ []) $ fsplit ! $ drop ! $ use1 𝓛 (‵ (owned_by κs cs zs)) (gives_all by_value κs 𝓛 cs a) $
               enter ! C Λ (function callee) args _ $
               alloc1 ! (λ l₀. alloc1 ! (λ l₁. alloc_all ! by_value cs (λ bs.
               alloc1 ! (λ lk. alloc1 ! (λ la. alloc1 ! (λ lr. alloc1 ! (λ lb. alloc0 ! $ params1 ! $
-              pass1 ! (init ! 9 refl (board-typed 𝓛 h is)) $ move ! (8 ∷ []) $ pass_all ! by_value κs cs bs _ a fits $
+              pass1 ! (init ! 9 refl (board_typed 𝓛 h is)) $ move ! (8 ∷ []) $ pass_all ! by_value κs cs bs _ a fits $
               -- [the arguments; room for a board; …; room for a reference; …; room for an answer; …;
               -- room for the board kept; …; _1; …; room for _0; …; what the arguments own; their tokens]
               assigns ! (of_opd ! (load ! (from ! (stop !)) (look ! 9 refl)))
-              (other ! by_value cs bs _ 0 (stop !)) (init ! 7 refl (board-typed 𝓛 h is)) $
+              (other ! by_value cs bs _ 0 (stop !)) (init ! 7 refl (board_typed 𝓛 h is)) $
               assigns ! (addr ! (other ! by_value cs bs _ 0 (stop !))) (other ! by_value cs bs _ 2 (stop !)) (init ! 3 refl (tt, tt)) $
               move ! (7 ∷ 13 ∷ 14 ∷ []) $ lends cs answer Altering 𝓛 κs qs h zs lk ! fm known is
               (λ α i j. and_then ! (load ! (other ! by_value cs bs _ 2 (stop !)) (look ! 5 refl))
-              (look-all by_value by-reference (α ∷ [], κs) ! 2 cs bs zs _ refl))
+              (look_all by_value by_reference (α ∷ [], κs) ! 2 cs bs zs _ refl))
               (λ r d e is-r is-d.
               -- [the board kept; their tokens; the arguments; room for a board; …; the reference; …; room for an answer; …; …; _1; …;
               -- room for _0; …]
               land ! (other ! by_value cs bs _ 1 (stop !)) (init ! 7 refl (answer.typed 𝓛 r _ is-r)) $
               assigns ! (of_opd ! (load ! (other ! by_value cs bs _ 0 (stop !)) (look ! 0 refl)))
-              (other ! by_value cs bs _ 3 (stop !)) (init ! 3 refl (board-typed 𝓛 d is-d)) $
+              (other ! by_value cs bs _ 3 (stop !)) (init ! 3 refl (board_typed 𝓛 d is-d)) $
               assigns ! (agg ! (and_then ! (load ! (other ! by_value cs bs _ 1 (stop !)) (look ! 7 refl))
               (and_then ! (load ! (other ! by_value cs bs _ 3 (stop !)) (look ! 3 refl)) (no_more !)))) (from ! (stop !))
-              (init ! 12 refl ((LL.lawful E.the_type E'.the_laws 𝓛).typed (both r d) _ (is-entered r d is-r is-d)).0) $
+              (init ! 12 refl ((LL.lawful E.the_type E'.the_laws 𝓛).typed (both r d) _ (is_entered r d is-r is-d)).0) $
               returns ! (look ! 12 refl) $ forget ! 0 refl $ forget ! 3 refl $ forget ! 5 refl $ forget ! 7 refl $
               forget ! 10 refl $ forget ! 12 refl $
               move ! (12 ∷ 13 ∷ []) $ free1 ! $ move ! (10 ∷ 11 ∷ []) $ free1 ! $ move ! (2 ∷ []) $ free_all ! by_value cs bs _ zs $

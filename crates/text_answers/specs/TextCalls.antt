@@ -2,8 +2,8 @@
 use Rattle.std.specs.Prelude.{◌≡◌, refl, Bool, true, false, cond, List, [], ◌∷◌, ◌++◌, ℕ, leb, length}
 use Rattle.std.proofs.Common.{◌∙◌}
 use Rattle.paper_board.specs.declared.Board.{Board}
-use Rattle.paper_board.specs.Paper.Limits.{emptyBoard}
-use Rattle.paper_board.specs.Paper.Parts.{emptyBooks}
+use Rattle.paper_board.specs.Paper.Limits.{empty_board}
+use Rattle.paper_board.specs.Paper.Parts.{empty_books}
 use Rattle.paper_entries.specs.Paper.Entry.{Entry}
 use Rattle.paper_entries.specs.Paper.EntryOf.{entry_of}
 use Rattle.paper_entries.specs.Paper.Sequence.{byValue, Call, after}
@@ -11,7 +11,7 @@ use Rattle.text_forms.specs.declared.Form.{Form}
 use Rattle.text_forms.specs.declared.Form.TheVariants.{Entry as Enters, Row, Pair, Plan, Tally, Unknown}
 use Rattle.text_forms.specs.Paper.Forms.{form_of}
 use Rattle.text_forms.specs.Paper.Lines.{Line, ended, unended, lines_of}
-use Rattle.text_answers.specs.Paper.Text.{carriedOut, serve, loadLimit, serveText}
+use Rattle.text_answers.specs.Paper.Text.{carried_out, serve, load_limit, serve_text}
 
 abbrev called : Entry → List Call
 called e = record { manner = byValue; entry = e } ∷ []
@@ -30,30 +30,30 @@ calls_of [] = []
 calls_of (ended l ∷ ls) = call_of (form_of l) ++ calls_of ls
 calls_of (unended l ∷ ls) = calls_of ls
 
-carried-after : (b : Board) (f : Form) (cs : List Call) → after (carriedOut b f).board cs ≡ after b (call_of f ++ cs)
-unfolding carriedOut after
-carried-after b (Enters e) cs = refl
-carried-after b (Row j) cs = refl
-carried-after b (Pair x y) cs = refl
-carried-after b (Plan n) cs = refl
-carried-after b Tally cs = refl
-carried-after b Unknown cs = refl
+carried_after : (b : Board) (f : Form) (cs : List Call) → after (carried_out b f).board cs ≡ after b (call_of f ++ cs)
+unfolding carried_out after
+carried_after b (Enters e) cs = refl
+carried_after b (Row j) cs = refl
+carried_after b (Pair x y) cs = refl
+carried_after b (Plan n) cs = refl
+carried_after b Tally cs = refl
+carried_after b Unknown cs = refl
 
-serve-after : (b : Board) (ls : List Line) → (serve b ls).board ≡ after b (calls_of ls)
+serve_after : (b : Board) (ls : List Line) → (serve b ls).board ≡ after b (calls_of ls)
 unfolding serve after
-serve-after b [] = refl
-serve-after b (ended l ∷ ls) = serve-after (carriedOut b (form_of l)).board ls ∙ carried-after b (form_of l) (calls_of ls)
-serve-after b (unended l ∷ ls) = serve-after b ls
+serve_after b [] = refl
+serve_after b (ended l ∷ ls) = serve_after (carried_out b (form_of l)).board ls ∙ carried_after b (form_of l) (calls_of ls)
+serve_after b (unended l ∷ ls) = serve_after b ls
 
 -- the calls of a text: none where it is too long
-abbrev pub textCalls : List ℕ → List Call
-textCalls t = cond (leb (length t) loadLimit) (calls_of (lines_of t)) []
+abbrev pub text_calls : List ℕ → List Call
+text_calls t = cond (leb (length t) load_limit) (calls_of (lines_of t)) []
 
-pub text-after : (t : List ℕ) → (serveText t).board ≡ after (emptyBoard emptyBooks) (textCalls t)
-unfolding serveText after
-text-after t = go (leb (length t) loadLimit) refl
+pub text_after : (t : List ℕ) → (serve_text t).board ≡ after (empty_board empty_books) (text_calls t)
+unfolding serve_text after
+text_after t = go (leb (length t) load_limit) refl
   where
-    go : (x : Bool) → leb (length t) loadLimit ≡ x
-        → (serveText t).board ≡ after (emptyBoard emptyBooks) (cond (leb (length t) loadLimit) (calls_of (lines_of t)) [])
-    go true e = rw e (serve-after (emptyBoard emptyBooks) (lines_of t))
+    go : (x : Bool) → leb (length t) load_limit ≡ x
+        → (serve_text t).board ≡ after (empty_board empty_books) (cond (leb (length t) load_limit) (calls_of (lines_of t)) [])
+    go true e = rw e (serve_after (empty_board empty_books) (lines_of t))
     go false e = rw e

@@ -3,31 +3,31 @@ use Rattle.std.specs.Prelude.{◌≡◌, refl}
 use Prim.Native.String.{String}
 use Rattle.text_decimals.specs.Bytes.{bytes}
 use Rattle.ground_sets.specs.Bit.{bit, with, without, union, difference, singleton}
-use Rattle.ground_arithmetic.specs.Linear.{eqZ}
+use Rattle.ground_arithmetic.specs.Linear.{eq_z}
 use Rattle.ground_arithmetic.specs.Sum.{sum, count}
 use Rattle.paper_board.specs.Paper.Tests.{implies, between, live, valid}
-use Rattle.paper_board.specs.BoardTests.WithinLimits.{all, isZero, fits, isZeroRow, full, shape, holdsJob, holdsNothing, joinable, agrees, withinLimits}
-use Rattle.paper_rules.specs.Update.Updates.{exclude, tighten, update, ◌andThen◌}
-use Rattle.paper_closure.specs.Find.{guard, ◌orElse◌, first, any, beyond, tooLate, joined, pushers, pushed, push, next, find}
+use Rattle.paper_board.specs.BoardTests.WithinLimits.{all, is_zero, fits, is_zero_row, full, shape, holds_job, holds_nothing, joinable, agrees, within_limits}
+use Rattle.paper_rules.specs.Update.Updates.{exclude, tighten, update, ◌and_then◌}
+use Rattle.paper_closure.specs.Find.{guard, ◌or_else◌, first, any, beyond, too_late, joined, pushers, pushed, push, next, find}
 use Rattle.paper_closure.specs.Closure.{close, closure}
-use Rattle.paper_closure.specs.Passes.{nothingLeft, passes}
-use Rattle.paper_entries.specs.Paper.Checks.{firstRefusal}
-use Rattle.paper_entries.specs.Paper.Enter.{updateAll, raw, closureWith, enter}
+use Rattle.paper_closure.specs.Passes.{nothing_left, passes}
+use Rattle.paper_entries.specs.Paper.Checks.{first_refusal}
+use Rattle.paper_entries.specs.Paper.Enter.{update_all, raw, closure_with, enter}
 use Rattle.paper_entries.specs.Paper.Looking.{row, pair}
 use Rattle.paper_plans.specs.Paper.Lists.{range, keep, every, among}
-use Rattle.paper_plans.specs.Paper.Tries as Tries
-use Rattle.paper_plans.specs.Paper.Tries.{add, startAfter, from, search}
-use Rattle.paper_plans.specs.Paper.Planner.{placedWord, startList, plan}
+use Rattle.paper_plans.specs.Paper.Tries
+use Rattle.paper_plans.specs.Paper.Tries.{add, start_after, from, search}
+use Rattle.paper_plans.specs.Paper.Planner.{placed_word, start_list, plan}
 use Rattle.text_decimals.specs.Decimal.{natural}
-use Rattle.text_numerals.specs.Numerals.{naturalAt, number_at}
+use Rattle.text_numerals.specs.Numerals.{natural_at, number_at}
 use Rattle.text_formats.specs.Format.{scan, filled}
 use Rattle.text_forms.specs.Paper.Forms.{first_of}
-use Rattle.text_replies.specs.Paper.ReplyTexts.{placementsText}
+use Rattle.text_replies.specs.Paper.ReplyTexts.{placements_text}
 use Rattle.text_forms.specs.Paper.Lines.{lines_of}
-use Rattle.text_answers.specs.Paper.Text.{carriedOut, serve, serveText, output}
+use Rattle.text_answers.specs.Paper.Text.{carried_out, serve, serve_text, output}
 
 abbrev TextGives : String → String → Type 0
-TextGives input answers = output (serveText (bytes input)).replies ≡ bytes answers
+TextGives input answers = output (serve_text (bytes input)).replies ≡ bytes answers
 
 -- "Whole case"
 abbrev pub WholeCase : Type 0
@@ -44,6 +44,6 @@ FormlessLines = TextGives "\n(row -1)\n(tally)" "(no 10)\n(no 2)\n(no 10)\n"
 abbrev pub NoLines : Type 0
 NoLines = TextGives "" ""
 
-pub text-examples-hold : WholeCase × FormlessLines × NoLines
-unfolding eqZ bit with without union difference singleton sum all implies between isZero fits isZeroRow full shape holdsJob holdsNothing joinable agrees withinLimits live valid exclude tighten update ◌andThen◌ guard ◌orElse◌ first any beyond tooLate joined pushers pushed push next find close closure nothingLeft passes firstRefusal updateAll raw closureWith enter row pair count range keep every among add Tries.◌orElse◌ startAfter from search placedWord startList plan natural naturalAt number_at scan filled first_of placementsText lines_of carriedOut serve serveText output
-text-examples-hold = (refl, refl, refl)
+pub text_examples_hold : WholeCase × FormlessLines × NoLines
+unfolding eq_z bit with without union difference singleton sum all implies between is_zero fits is_zero_row full shape holds_job holds_nothing joinable agrees within_limits live valid exclude tighten update ◌and_then◌ guard ◌or_else◌ first any beyond too_late joined pushers pushed push next find close closure nothing_left passes first_refusal update_all raw closure_with enter row pair count range keep every among add Tries.◌or_else◌ start_after from search placed_word start_list plan natural natural_at number_at scan filled first_of placements_text lines_of carried_out serve serve_text output
+text_examples_hold = (refl, refl, refl)

@@ -2,7 +2,7 @@
 ghost use Rattle.std.specs.Prelude.{◌≡◌, true, ◌+◌, ◌≤◌, length};
 ghost use Rattle.text_decimals.specs.Written.{Written};
 ghost use Rattle.paper_closure.specs.Passes.{passes};
-ghost use Rattle.text_replies.specs.Room.{answerRoom};
+ghost use Rattle.text_replies.specs.Room.{answer_room};
 ghost use Rattle.text_answers.specs.Paper.Text as paper;
 
 use call_enter::enter;
@@ -23,8 +23,8 @@ pub struct Answered {
 }
 
 fn entered(out: &mut [u8], at: usize, entered: Entered) -> Answered
-    requires { at + answerRoom ≤ length out.old }
-    ensures written { Written out.old at out.new result.end (paper.replyText (paper.entered entered).reply) answerRoom }
+    requires { at + answer_room ≤ length out.old }
+    ensures written { Written out.old at out.new result.end (paper.reply_text (paper.entered entered).reply) answer_room }
     ensures board_value { result.board ≡ (paper.entered entered).board }
 {
     let answer = entered.answer;
@@ -40,9 +40,9 @@ fn looked(board: Board, end: usize) -> Answered
 }
 
 pub fn carry_out(board: Board, form: Form, out: &mut [u8], at: usize) -> Answered
-    requires { (passes board ≡ true) × (at + answerRoom ≤ length out.old) }
-    ensures written { Written out.old at out.new result.end (paper.replyText (paper.carriedOut board form).reply) answerRoom }
-    ensures board_value { result.board ≡ (paper.carriedOut board form).board }
+    requires { (passes board ≡ true) × (at + answer_room ≤ length out.old) }
+    ensures written { Written out.old at out.new result.end (paper.reply_text (paper.carried_out board form).reply) answer_room }
+    ensures board_value { result.board ≡ (paper.carried_out board form).board }
 {
     match form {
         Form::Entry(entry) => entered(out, at, enter(board, entry)),

@@ -11,5 +11,5 @@ bytes (c ∷ s) = code c then bytes s
 abbrev pub minus : ℕ
 minus = code "-"
 
-abbrev pub isDigit : ℕ → Bool
-isDigit c = leb (code "0") c && leb c (code "9")
+abbrev pub is_digit : ℕ → Bool
+is_digit c = leb (code "0") c && leb c (code "9")

@@ -4,14 +4,14 @@ use Rattle.std.specs.Prelude.{ℕ, zero, suc, ◌+◌, ◌/◌, ◌%◌, ltb, �
 use Rattle.text_decimals.specs.Bytes.{minus}
 
 -- the digits of n, the most significant first, where there are at most as many as said
-abbrev pub digitsWithin : ℕ → ℕ → List ℕ
-digitsWithin zero n = []
-digitsWithin (suc k) n =
-    let before = digitsWithin k (n / 10) in
+abbrev pub digits_within : ℕ → ℕ → List ℕ
+digits_within zero n = []
+digits_within (suc k) n =
+    let before = digits_within k (n / 10) in
     cond (ltb n 10) [] before ++ (code "0" + n % 10) ∷ []
 
 unfoldable pub natural : ℕ → List ℕ
-natural n = digitsWithin (suc n) n
+natural n = digits_within (suc n) n
 
 abbrev pub decimal : ℤ → List ℕ
 decimal (pos n) = natural n

@@ -6,8 +6,8 @@ module _ {A : Type 0} (l : List A) (k : ℕ) where
   abbrev pub rest : List A
   rest = take (length l - k) (drop k l)
 
-  pub rest-drop : rest ≡ drop k l
-  rest-drop = take_all (length l - k) (drop k l) (omega (arith, length-drop k l))
+  pub rest_drop : rest ≡ drop k l
+  rest_drop = take_all (length l - k) (drop k l) (omega (arith, length-drop k l))
 
-  pub rest-length : length rest ≡ length l - k
-  rest-length = ap length rest-drop ∙ length-drop k l
+  pub rest_length : length rest ≡ length l - k
+  rest_length = ap length rest_drop ∙ length-drop k l

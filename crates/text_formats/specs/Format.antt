@@ -7,11 +7,11 @@ use Rattle.text_decimals.specs.Decimal.{natural, decimal}
 use Rattle.text_numerals.specs.Numerals.{number_at}
 use Rattle.text_numerals.specs.declared.Numeral.TheVariants.{Number, Nothing}
 
-abbrev pub numberMark : ℕ
-numberMark = code "#"
+abbrev pub number_mark : ℕ
+number_mark = code "#"
 
-abbrev pub naturalMark : ℕ
-naturalMark = code "@"
+abbrev pub natural_mark : ℕ
+natural_mark = code "@"
 
 -- a format with its marks replaced in turn by the numbers given
 unfoldable pub filled : List ℕ → List ℕ → List ℤ → List ℕ
@@ -20,7 +20,7 @@ filled (c ∷ f) ns zs =
     let asNatural = natural (get_or ns 0 0) ++ filled f (drop 1 ns) zs in
     let as_number = decimal (get_or zs 0 (pos 0)) ++ filled f ns (drop 1 zs) in
     let asItself = filled f ns zs in
-    cond (eqb c naturalMark) asNatural (cond (eqb c numberMark) as_number (c ∷ asItself))
+    cond (eqb c natural_mark) asNatural (cond (eqb c number_mark) as_number (c ∷ asItself))
 
 abbrev pub with_first : ℤ → Option (List ℤ) → Option (List ℤ)
 with_first z none = none
@@ -32,7 +32,7 @@ scan [] [] = some []
 scan [] (x ∷ t) = none
 scan (c ∷ f) t =
     cond
-    (eqb c numberMark)
+    (eqb c number_mark)
     (elim (number_at t) [ Nothing ↦ none | Number k z ↦ with_first z (scan f (drop k t)) ])
     (elim t [ [] ↦ none | x ∷ rest ↦ cond (eqb x c) (scan f rest) none ])
 
@@ -44,4 +44,4 @@ marks m (c ∷ f) = cond (eqb c m) 1 0 + marks m f
 -- the most bytes that a format takes when it is filled in with 64-bit naturals and 32-bit numbers
 abbrev pub room : List ℕ → ℕ
 room [] = 0
-room (c ∷ f) = cond (eqb c naturalMark) 20 (cond (eqb c numberMark) 11 1) + room f
+room (c ∷ f) = cond (eqb c natural_mark) 20 (cond (eqb c number_mark) 11 1) + room f

@@ -9,77 +9,77 @@ use Rattle.std.proofs.Common.{sym, ◌∙◌, zero-add, add-zero, add-suc, arith
 use Rattle.std.proofs.Math.Decide.{ℕ_discrete}
 use Rattle.std.proofs.Math.Nat.{suc-add}
 use Rattle.std.proofs.Math.Numerals.{add-one}
-use Rattle.text_numerals.specs.Prefix.{prefix-within}
-use Rattle.text_decimals.specs.Rest.{rest, rest-drop}
+use Rattle.text_numerals.specs.Prefix.{prefix_within}
+use Rattle.text_decimals.specs.Rest.{rest, rest_drop}
 use Rattle.text_scans.specs.declared.Scanned.{Scanned}
-use Rattle.text_formats.specs.Format.{numberMark, scan, marks}
+use Rattle.text_formats.specs.Format.{number_mark, scan, marks}
 use Rattle.text_scans.specs.Scan.{places, placed, scanned}
 use Rattle.text_forms.specs.declared.table.Match.{Match}
-use Rattle.text_forms.specs.LineLaws.{inLine, lineLength, no_lines, lines-ended, lines-unended}
+use Rattle.text_forms.specs.LineLaws.{in_line, line_length, no_lines, lines_ended, lines_unended}
 use Rattle.text_forms.specs.Paper.Lines.{ended, lines_of}
-use Rattle.text_forms.specs.FormTable.{scans, firstIn}
+use Rattle.text_forms.specs.FormTable.{scans, first_in}
 
 -- what is found k lines further down
 abbrev past : ℕ → Match → Match
 past k r = record { index = k + r.index; numbers = r.numbers }
 
 pub record Scanning (table text left : List ℕ) (index : ℕ) : Type 0 where
-  pub same : firstIn (lines_of table) text ≡ past index (firstIn (lines_of left) text)
+  pub same : first_in (lines_of table) text ≡ past index (first_in (lines_of left) text)
   pub scans : scans (lines_of left) ≡ true
   pub within : index + length left ≤ length table
 
 -- the first line of a table, and the others
 pub record First (t : List ℕ) : Type 0 where
-  pub within : lineLength t < length t
-  pub lines : lines_of t ≡ ended (take (lineLength t) t) ∷ lines_of (drop (suc (lineLength t)) t)
-  pub few : marks numberMark (take (lineLength t) t) ≤ places
-  pub others : scans (lines_of (drop (suc (lineLength t)) t)) ≡ true
+  pub within : line_length t < length t
+  pub lines : lines_of t ≡ ended (take (line_length t) t) ∷ lines_of (drop (suc (line_length t)) t)
+  pub few : marks number_mark (take (line_length t) t) ≤ places
+  pub others : scans (lines_of (drop (suc (line_length t)) t)) ≡ true
 
-pub first-line : (t : List ℕ) → 0 < length t → scans (lines_of t) ≡ true → First t
-first-line [] more s = absurd (omega arith)
-first-line (c ∷ t) more s = go (ℕ_discrete (lineLength (c ∷ t)) (length (c ∷ t)))
+pub first_line : (t : List ℕ) → 0 < length t → scans (lines_of t) ≡ true → First t
+first_line [] more s = absurd (omega arith)
+first_line (c ∷ t) more s = go (ℕ_discrete (line_length (c ∷ t)) (length (c ∷ t)))
   where
-    go : Dec (lineLength (c ∷ t) ≡ length (c ∷ t)) → First (c ∷ t)
-    go (yes all) = absurd (false≢true (rw (lines-unended c t all) at s))
+    go : Dec (line_length (c ∷ t) ≡ length (c ∷ t)) → First (c ∷ t)
+    go (yes all) = absurd (false≢true (rw (lines_unended c t all) at s))
     go (no less) =
-        let within : lineLength (c ∷ t) < length (c ∷ t) = omega (arith, less, prefix-within inLine (c ∷ t)) in
-        let lines = lines-ended (c ∷ t) within in
-        let f = take (lineLength (c ∷ t)) (c ∷ t) in
-        let ls = lines_of (drop (suc (lineLength (c ∷ t))) (c ∷ t)) in
-        let (few, others) = (and-eq-true_iff (leb (marks numberMark f) places) (scans ls)).0 (rw lines at s) in
+        let within : line_length (c ∷ t) < length (c ∷ t) = omega (arith, less, prefix_within in_line (c ∷ t)) in
+        let lines = lines_ended (c ∷ t) within in
+        let f = take (line_length (c ∷ t)) (c ∷ t) in
+        let ls = lines_of (drop (suc (line_length (c ∷ t))) (c ∷ t)) in
+        let (few, others) = (and-eq-true_iff (leb (marks number_mark f) places) (scans ls)).0 (rw lines at s) in
         record { within = within; lines = lines; few = leb-true _ _ few; others = others }
 
-pub scanning-start : (table text : List ℕ) → scans (lines_of table) ≡ true → Scanning table text table 0
-scanning-start table text s = record { same = rw zero-add; scans = s; within = omega arith }
+pub scanning_start : (table text : List ℕ) → scans (lines_of table) ≡ true → Scanning table text table 0
+scanning_start table text s = record { same = rw zero-add; scans = s; within = omega arith }
 
 module _ (table text left : List ℕ) (index : ℕ) (s : Scanning table text left index) where
-  pub none_left : length left ≡ 0 → record { index = index; numbers = placed places [] } ≡ firstIn (lines_of table) text
-  unfolding firstIn
+  pub none_left : length left ≡ 0 → record { index = index; numbers = placed places [] } ≡ first_in (lines_of table) text
+  unfolding first_in
   none_left e = rw (s.same, no_lines left e, add-zero)
 
-  module _ (l : First left) (x : Scanned) (is : x ≡ scanned (scan (take (lineLength left) left) text)) where
+  module _ (l : First left) (x : Scanned) (is : x ≡ scanned (scan (take (line_length left) left) text)) where
     abbrev format : List ℕ
-    format = take (lineLength left) left
+    format = take (line_length left) left
 
-    pub found_here : x.matched ≡ true → record { index = index; numbers = x.numbers } ≡ firstIn (lines_of table) text
-    unfolding firstIn
+    pub found_here : x.matched ≡ true → record { index = index; numbers = x.numbers } ≡ first_in (lines_of table) text
+    unfolding first_in
     found_here matched = go (scan format text) refl is
       where
-        go : (o : Option (List ℤ)) → scan format text ≡ o → x ≡ scanned o → record { index = index; numbers = x.numbers } ≡ firstIn (lines_of table) text
+        go : (o : Option (List ℤ)) → scan format text ≡ o → x ≡ scanned o → record { index = index; numbers = x.numbers } ≡ first_in (lines_of table) text
         go none e q = absurd (false≢true (sym (ap (λ y. y.matched) q) ∙ matched))
-        go (some zs) e q = rw (q, s.same, l.lines, firstIn, e, add-zero)
+        go (some zs) e q = rw (q, s.same, l.lines, first_in, e, add-zero)
 
-    pub found-later : x.matched ≡ false → Scanning table text (rest left (lineLength left + 1)) (index + 1)
-    unfolding firstIn
-    found-later unmatched =
-        rw (rest-drop left (lineLength left + 1), add-one (lineLength left))
+    pub found_later : x.matched ≡ false → Scanning table text (rest left (line_length left + 1)) (index + 1)
+    unfolding first_in
+    found_later unmatched =
+        rw (rest_drop left (line_length left + 1), add-one (line_length left))
         (record {
           same = go (scan format text) refl is;
           scans = l.others;
-          within = omega (arith, length-drop (suc (lineLength left)) left, s.within, l.within);
+          within = omega (arith, length-drop (suc (line_length left)) left, s.within, l.within);
         })
       where
         go : (o : Option (List ℤ)) → scan format text ≡ o → x ≡ scanned o
-            → firstIn (lines_of table) text ≡ past (index + 1) (firstIn (lines_of (drop (suc (lineLength left)) left)) text)
-        go none e q = rw (s.same, l.lines, firstIn, e, add-one, suc-add, add-suc)
+            → first_in (lines_of table) text ≡ past (index + 1) (first_in (lines_of (drop (suc (line_length left)) left)) text)
+        go none e q = rw (s.same, l.lines, first_in, e, add-one, suc-add, add-suc)
         go (some zs) e q = absurd (false≢true (sym unmatched ∙ ap (λ y. y.matched) q))

@@ -2,9 +2,9 @@
 use Rattle.std.specs.Prelude.{ℕ, zero, suc, ◌≤◌, leb, ℤ, length, get_or, Bool, true, ◌&&◌, List, [], ◌∷◌, ◌≡◌, refl}
 use Rattle.std.proofs.Math.Bool.{and-eq-true_iff}
 use Rattle.std.proofs.Common.{leb-true}
-use Rattle.text_scans.specs.Apart.{apart, apart-unread}
-use Rattle.text_scans.specs.ScannedIsFilled.{scannable, AllShort, filled-is-scanned}
-use Rattle.text_formats.specs.Format.{numberMark, filled, marks}
+use Rattle.text_scans.specs.Apart.{apart, apart_unread}
+use Rattle.text_scans.specs.ScannedIsFilled.{scannable, AllShort, filled_is_scanned}
+use Rattle.text_formats.specs.Format.{number_mark, filled, marks}
 use Rattle.text_scans.specs.Scan.{places}
 use Rattle.text_forms.specs.Paper.Forms.{FormShape, said, first_of}
 use Rattle.text_forms.specs.FormTable.{nothing}
@@ -16,17 +16,17 @@ alone s (t ∷ ss) = apart t.format s.format && alone s ss
 
 abbrev pub distinct : List FormShape → Bool
 distinct [] = true
-distinct (s ∷ ss) = (scannable s.format && leb (marks numberMark s.format) places) && (alone s ss && distinct ss)
+distinct (s ∷ ss) = (scannable s.format && leb (marks number_mark s.format) places) && (alone s ss && distinct ss)
 
 pub record DistinctShapes (s : FormShape) (ss : List FormShape) : Type 0 where
   pub plain : scannable s.format ≡ true
-  pub few : marks numberMark s.format ≤ places
+  pub few : marks number_mark s.format ≤ places
   pub alone : alone s ss ≡ true
   pub rest : distinct ss ≡ true
 
-pub distinct-parts : (s : FormShape) (ss : List FormShape) → distinct (s ∷ ss) ≡ true → DistinctShapes s ss
-distinct-parts s ss h =
-    let few = leb (marks numberMark s.format) places in
+pub distinct_parts : (s : FormShape) (ss : List FormShape) → distinct (s ∷ ss) ≡ true → DistinctShapes s ss
+distinct_parts s ss h =
+    let few = leb (marks number_mark s.format) places in
     let (one, others) = (and-eq-true_iff (scannable s.format && few) (alone s ss && distinct ss)).0 h in
     let (plain, few) = (and-eq-true_iff (scannable s.format) few).0 one in
     let (alone, rest) = (and-eq-true_iff (alone s ss) (distinct ss)).0 others in
@@ -39,16 +39,16 @@ alone_at s (t ∷ ss) h (suc k) = alone_at s ss ((and-eq-true_iff (apart t.forma
 
 plain_at : (ss : List FormShape) → distinct ss ≡ true → (k : ℕ) → scannable (get_or ss k nothing).format ≡ true
 plain_at [] h k = refl
-plain_at (s ∷ ss) h zero = (distinct-parts s ss h).plain
-plain_at (s ∷ ss) h (suc k) = plain_at ss (distinct-parts s ss h).rest k
+plain_at (s ∷ ss) h zero = (distinct_parts s ss h).plain
+plain_at (s ∷ ss) h (suc k) = plain_at ss (distinct_parts s ss h).rest k
 
 -- the text of a shape is read by that shape
-pub filled-is-said : (ss : List FormShape) → distinct ss ≡ true → (k : ℕ) (zs : List ℤ) → AllShort zs → length zs ≡ marks numberMark (get_or ss k nothing).format
+pub filled_is_said : (ss : List FormShape) → distinct ss ≡ true → (k : ℕ) (zs : List ℤ) → AllShort zs → length zs ≡ marks number_mark (get_or ss k nothing).format
     → first_of ss (filled (get_or ss k nothing).format [] zs) ≡ said (get_or ss k nothing) zs
 unfolding first_of
-filled-is-said [] h k zs short each = refl
-filled-is-said (s ∷ ss) h zero zs short each = rw (filled-is-scanned s.format zs (distinct-parts s ss h).plain short each, first_of)
-filled-is-said (s ∷ ss) h (suc k) zs short each =
-    let parts = distinct-parts s ss h in
-    rw (apart-unread (get_or ss k nothing).format s.format zs (plain_at ss parts.rest k) (alone_at s ss parts.alone k) short each, first_of)
-    (filled-is-said ss parts.rest k zs short each)
+filled_is_said [] h k zs short each = refl
+filled_is_said (s ∷ ss) h zero zs short each = rw (filled_is_scanned s.format zs (distinct_parts s ss h).plain short each, first_of)
+filled_is_said (s ∷ ss) h (suc k) zs short each =
+    let parts = distinct_parts s ss h in
+    rw (apart_unread (get_or ss k nothing).format s.format zs (plain_at ss parts.rest k) (alone_at s ss parts.alone k) short each, first_of)
+    (filled_is_said ss parts.rest k zs short each)

@@ -4,7 +4,7 @@ mod table;
 
 ghost use Rattle.std.specs.Prelude.{◌≡◌};
 ghost use Rattle.text_forms.specs.Paper.Forms.{form_of};
-ghost use Rattle.text_forms.specs.FormTable.{madeAt};
+ghost use Rattle.text_forms.specs.FormTable.{made_at};
 
 use paper_entries::Entry;
 use table::first;
@@ -43,7 +43,7 @@ pub fn read(line: &[u8]) -> Form
 
 // The form that a format of the table makes of its numbers, n[0] the first.
 fn form_of(index: usize, n: [i32; PLACES]) -> Form
-    ensures { result ≡ madeAt index n }
+    ensures { result ≡ made_at index n }
 {
     match index {
         0 => Form::Entry(Entry::Addition {

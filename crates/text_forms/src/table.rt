@@ -1,7 +1,7 @@
 // A table of formats, one to a line: the first that a text is written by.
 ghost use Rattle.std.specs.Prelude.{◌≡◌, true};
 ghost use Rattle.text_forms.specs.Paper.Lines.{lines_of};
-ghost use Rattle.text_forms.specs.FormTable.{scans, firstIn};
+ghost use Rattle.text_forms.specs.FormTable.{scans, first_in};
 
 use crate::line::line_length;
 use text_scans::{PLACES, scan};
@@ -15,7 +15,7 @@ pub struct Match {
 
 pub fn first(table: &[u8], text: &[u8]) -> Match
     requires { scans (lines_of table.now) ≡ true }
-    ensures { result ≡ firstIn (lines_of table.now) text.now }
+    ensures { result ≡ first_in (lines_of table.now) text.now }
 {
     let mut rest = table;
     let mut index = 0;

@@ -5,8 +5,8 @@ use Rattle.std.proofs.Math.Seq.{take-length}
 use Rattle.std.proofs.Math.Bool.{and-eq-true_iff}
 use Rattle.std.proofs.Common.{arith, SFits, leb-true}
 use Rattle.std.specs.Int.{w32}
-use Rattle.text_numerals.specs.Numerals.{digits, value, isNatural, naturalAt, Short}
-use Rattle.text_numerals.specs.Value.{value-short}
+use Rattle.text_numerals.specs.Numerals.{digits, value, is_natural, natural_at, Short}
+use Rattle.text_numerals.specs.Value.{value_short}
 use Rattle.text_numerals.specs.declared.Numeral.TheVariants.{Number, Nothing}
 
 pub record NaturalParts (ds : List ℕ) : Type 0 where
@@ -14,32 +14,32 @@ pub record NaturalParts (ds : List ℕ) : Type 0 where
   pub few : length ds ≤ 7
   pub leads : (eqb (length ds) 1 || not (eqb (get_or ds 0 0) (code "0"))) ≡ true
 
-pub natural-parts : (ds : List ℕ) → isNatural ds ≡ true → NaturalParts ds
-natural-parts ds is =
+pub natural_parts : (ds : List ℕ) → is_natural ds ≡ true → NaturalParts ds
+natural_parts ds is =
     let (counts, leads) = (and-eq-true_iff (leb 1 (length ds) && leb (length ds) 7) (eqb (length ds) 1 || not (eqb (get_or ds 0 0) (code "0")))).0 is in
     let (some, few) = (and-eq-true_iff (leb 1 (length ds)) (leb (length ds) 7)).0 counts in
     record { some = leb-true 1 (length ds) some; few = leb-true (length ds) 7 few; leads = leads }
 
-pub natural-short : (t : List ℕ) → isNatural (digits t) ≡ true → value (digits t) < 10000000
-natural-short t is = rw (take-length (digits t)) at (value-short t (length (digits t)) (omega arith) (natural-parts (digits t) is).few)
+pub natural_short : (t : List ℕ) → is_natural (digits t) ≡ true → value (digits t) < 10000000
+natural_short t is = rw (take-length (digits t)) at (value_short t (length (digits t)) (omega arith) (natural_parts (digits t) is).few)
 
 -- a short number is one of 32 bits
-pub short-fits : (z : ℤ) → Short z → SFits w32 z
-short-fits (pos n) h = record { sfits = omega arith }
-short-fits (negsuc n) h = record { sfits = omega arith }
+pub short_fits : (z : ℤ) → Short z → SFits w32 z
+short_fits (pos n) h = record { sfits = omega arith }
+short_fits (negsuc n) h = record { sfits = omega arith }
 
-pub nothing-is-no-number : (k : ℕ) (z : ℤ) → Nothing ≡ Number k z → ⊥
-nothing-is-no-number k z e = let clash : ◌≡◌ {A = ℕ} 0 1 = cc in omega arith
+pub nothing_is_no_number : (k : ℕ) (z : ℤ) → Nothing ≡ Number k z → ⊥
+nothing_is_no_number k z e = let clash : ◌≡◌ {A = ℕ} 0 1 = cc in omega arith
 
 pub record NaturalRead (t : List ℕ) (k : ℕ) (z : ℤ) : Type 0 where
-  pub is : isNatural (digits t) ≡ true
+  pub is : is_natural (digits t) ≡ true
   pub all : k ≡ length (digits t)
   pub same : z ≡ pos (value (digits t))
 
-pub natural-found : (t : List ℕ) (k : ℕ) (z : ℤ) → naturalAt t ≡ Number k z → NaturalRead t k z
-unfolding naturalAt
-natural-found t k z e = go (isNatural (digits t)) refl e
+pub natural_found : (t : List ℕ) (k : ℕ) (z : ℤ) → natural_at t ≡ Number k z → NaturalRead t k z
+unfolding natural_at
+natural_found t k z e = go (is_natural (digits t)) refl e
   where
-    go : (b : Bool) → isNatural (digits t) ≡ b → cond b (Number (length (digits t)) (pos (value (digits t)))) Nothing ≡ Number k z → NaturalRead t k z
+    go : (b : Bool) → is_natural (digits t) ≡ b → cond b (Number (length (digits t)) (pos (value (digits t)))) Nothing ≡ Number k z → NaturalRead t k z
     go true is e = record { is = is; all = cc; same = cc }
-    go false is e = absurd (nothing-is-no-number k z e)
+    go false is e = absurd (nothing_is_no_number k z e)

@@ -4,33 +4,33 @@ use Rattle.std.proofs.Math.Dec.{eqb-suc-zero}
 use Rattle.std.proofs.Common.{append-nil, sym, ap, ◌∙◌, arith, eqb-true, ne_eqb}
 use Rattle.text_decimals.specs.Bytes.{minus}
 use Rattle.text_decimals.specs.Decimal.{natural, decimal}
-use Rattle.text_numerals.specs.DecimalLaws.{natural-digits, natural-value, natural-leads, written-is-natural, natural-is-written}
-use Rattle.text_decimals.specs.Bytes.{isDigit}
-use Rattle.text_numerals.specs.Prefix.{prefix-within}
-use Rattle.text_numerals.specs.DigitsRead.{startsWithDigit, no-digits, digits-are-first, digit_at}
-use Rattle.text_numerals.specs.NaturalRead.{natural-short, nothing-is-no-number, NaturalRead, natural-found}
-use Rattle.text_numerals.specs.Numerals.{digits, naturalAt, negative, number_at, Short}
+use Rattle.text_numerals.specs.DecimalLaws.{natural_digits, natural_value, natural_leads, written_is_natural, natural_is_written}
+use Rattle.text_decimals.specs.Bytes.{is_digit}
+use Rattle.text_numerals.specs.Prefix.{prefix_within}
+use Rattle.text_numerals.specs.DigitsRead.{starts_with_digit, no_digits, digits_are_first, digit_at}
+use Rattle.text_numerals.specs.NaturalRead.{natural_short, nothing_is_no_number, NaturalRead, natural_found}
+use Rattle.text_numerals.specs.Numerals.{digits, natural_at, negative, number_at, Short}
 use Rattle.text_numerals.specs.declared.Numeral.{Numeral}
 use Rattle.text_numerals.specs.declared.Numeral.TheVariants.{Number, Nothing}
 
-natural-then : (n : ℕ) (t : List ℕ) → startsWithDigit t ≡ false → digits (natural n ++ t) ≡ natural n
-natural-then n t e = natural-digits n t ∙ ap (λ l. natural n ++ l) (no-digits t e) ∙ append-nil (natural n)
+natural_then : (n : ℕ) (t : List ℕ) → starts_with_digit t ≡ false → digits (natural n ++ t) ≡ natural n
+natural_then n t e = natural_digits n t ∙ ap (λ l. natural n ++ l) (no_digits t e) ∙ append-nil (natural n)
 
-natural-read : (n : ℕ) (t : List ℕ) → n < 10000000 → startsWithDigit t ≡ false → naturalAt (natural n ++ t) ≡ Number (length (natural n)) (pos n)
-unfolding naturalAt
-natural-read n t h e = rw (natural-then n t e, written-is-natural n h, natural-value n)
+natural_read : (n : ℕ) (t : List ℕ) → n < 10000000 → starts_with_digit t ≡ false → natural_at (natural n ++ t) ≡ Number (length (natural n)) (pos n)
+unfolding natural_at
+natural_read n t h e = rw (natural_then n t e, written_is_natural n h, natural_value n)
 
 -- a text that starts with a digit starts with no minus
-unsigned : (t : List ℕ) → 0 < length (digits t) → number_at t ≡ naturalAt t
+unsigned : (t : List ℕ) → 0 < length (digits t) → number_at t ≡ natural_at t
 unfolding number_at
 unsigned [] h = absurd (omega arith)
 unsigned (c ∷ t) h = let d = digit_at (c ∷ t) 0 h in rw (ne_eqb c minus (λ q. omega (arith, d.low, q)))
 
 -- a number that is written is read back, where no digit comes after it
-pub number_read : (z : ℤ) (t : List ℕ) → Short z → startsWithDigit t ≡ false → number_at (decimal z ++ t) ≡ Number (length (decimal z)) z
+pub number_read : (z : ℤ) (t : List ℕ) → Short z → starts_with_digit t ≡ false → number_at (decimal z ++ t) ≡ Number (length (decimal z)) z
 unfolding number_at
-number_read (pos n) t h e = unsigned (natural n ++ t) (rw (natural-then n t e) (natural-leads n).0) ∙ natural-read n t h e
-number_read (negsuc n) t h e = rw (natural-read (suc n) t h e, eqb-suc-zero n)
+number_read (pos n) t h e = unsigned (natural n ++ t) (rw (natural_then n t e) (natural_leads n).0) ∙ natural_read n t h e
+number_read (negsuc n) t h e = rw (natural_read (suc n) t h e, eqb-suc-zero n)
 
 -- k bytes of the text are what is written of a short number
 pub record ReadsNumber (t : List ℕ) (k : ℕ) (z : ℤ) : Type 0 where
@@ -38,34 +38,34 @@ pub record ReadsNumber (t : List ℕ) (k : ℕ) (z : ℤ) : Type 0 where
   pub written : take k t ≡ decimal z
   pub short : Short z
 
-from-natural : (t : List ℕ) (k : ℕ) (z : ℤ) → NaturalRead t k z → ReadsNumber t k z
-from-natural t k z r =
+from_natural : (t : List ℕ) (k : ℕ) (z : ℤ) → NaturalRead t k z → ReadsNumber t k z
+from_natural t k z r =
     record {
-      within = omega (arith, prefix-within isDigit t, r.all);
-      written = rw (r.all, r.same) (digits-are-first t ∙ sym (natural-is-written t r.is));
-      short = rw r.same (natural-short t r.is);
+      within = omega (arith, prefix_within is_digit t, r.all);
+      written = rw (r.all, r.same) (digits_are_first t ∙ sym (natural_is_written t r.is));
+      short = rw r.same (natural_short t r.is);
     }
 
-from-negative : (t : List ℕ) (k : ℕ) (z : ℤ) (found : Numeral) → naturalAt t ≡ found → negative found ≡ Number k z → ReadsNumber (minus ∷ t) k z
-from-negative t k z Nothing e q = absurd (nothing-is-no-number k z q)
-from-negative t k z (Number j (pos zero)) e q = absurd (nothing-is-no-number k z q)
-from-negative t k z (Number j (pos (suc n))) e q =
-    let r = from-natural t j (pos (suc n)) (natural-found t j (pos (suc n)) e) in
+from_negative : (t : List ℕ) (k : ℕ) (z : ℤ) (found : Numeral) → natural_at t ≡ found → negative found ≡ Number k z → ReadsNumber (minus ∷ t) k z
+from_negative t k z Nothing e q = absurd (nothing_is_no_number k z q)
+from_negative t k z (Number j (pos zero)) e q = absurd (nothing_is_no_number k z q)
+from_negative t k z (Number j (pos (suc n))) e q =
+    let r = from_natural t j (pos (suc n)) (natural_found t j (pos (suc n)) e) in
     let found = rw (eqb-suc-zero n) at q in
     let longer : k ≡ suc j = cc in
     let less : z ≡ negsuc n = cc in
     record { within = omega (arith, r.within); written = rw (longer, less) (ap (λ l. minus ∷ l) r.written); short = rw less r.short }
-from-negative t k z (Number j (negsuc n)) e q =
-    let r = natural-found t j (negsuc n) e in
+from_negative t k z (Number j (negsuc n)) e q =
+    let r = natural_found t j (negsuc n) e in
     let clash : ◌≡◌ {A = ℕ} 0 1 = cc in
     absurd (omega arith)
 
 -- what is read as a number is what is written of it
 pub read_number : (t : List ℕ) (k : ℕ) (z : ℤ) → number_at t ≡ Number k z → ReadsNumber t k z
 unfolding number_at
-read_number [] k z e = absurd (nothing-is-no-number k z e)
+read_number [] k z e = absurd (nothing_is_no_number k z e)
 read_number (c ∷ t) k z e = go (eqb c minus) refl e
   where
-    go : (b : Bool) → eqb c minus ≡ b → cond b (negative (naturalAt t)) (naturalAt (c ∷ t)) ≡ Number k z → ReadsNumber (c ∷ t) k z
-    go true is e = rw (eqb-true c minus is) (from-negative t k z (naturalAt t) refl e)
-    go false is e = from-natural (c ∷ t) k z (natural-found (c ∷ t) k z e)
+    go : (b : Bool) → eqb c minus ≡ b → cond b (negative (natural_at t)) (natural_at (c ∷ t)) ≡ Number k z → ReadsNumber (c ∷ t) k z
+    go true is e = rw (eqb-true c minus is) (from_negative t k z (natural_at t) refl e)
+    go false is e = from_natural (c ∷ t) k z (natural_found (c ∷ t) k z e)

@@ -1,30 +1,30 @@
 -- "A number is an optional minus and 1 to 7 decimal digits, no leading zero, no -0."
 use Prim.Native.Char.{code}
 use Rattle.std.specs.Prelude.{ℕ, suc, ◌+◌, ◌-◌, ◌*◌, ◌<◌, eqb, leb, ℤ, pos, neg_ℤ, nat_abs, length, get_or, Bool, cond, ◌&&◌, ◌||◌, not, List, [], ◌∷◌}
-use Rattle.text_decimals.specs.Bytes.{minus, isDigit}
+use Rattle.text_decimals.specs.Bytes.{minus, is_digit}
 use Rattle.text_numerals.specs.Prefix.{prefix}
 use Rattle.text_numerals.specs.declared.Numeral.{Numeral}
 use Rattle.text_numerals.specs.declared.Numeral.TheVariants.{Number, Nothing}
 
 -- the digits at the start of a text
 abbrev pub digits : List ℕ → List ℕ
-digits = prefix isDigit
+digits = prefix is_digit
 
 -- what the digits come to after those that came to n
-abbrev pub valueAfter : ℕ → List ℕ → ℕ
-valueAfter n [] = n
-valueAfter n (d ∷ ds) = valueAfter (10 * n + (d - code "0")) ds
+abbrev pub value_after : ℕ → List ℕ → ℕ
+value_after n [] = n
+value_after n (d ∷ ds) = value_after (10 * n + (d - code "0")) ds
 
 abbrev pub value : List ℕ → ℕ
-value ds = valueAfter 0 ds
+value ds = value_after 0 ds
 
 -- "1 to 7 decimal digits, no leading zero"
-abbrev pub isNatural : List ℕ → Bool
-isNatural ds = (leb 1 (length ds) && leb (length ds) 7) && (eqb (length ds) 1 || not (eqb (get_or ds 0 0) (code "0")))
+abbrev pub is_natural : List ℕ → Bool
+is_natural ds = (leb 1 (length ds) && leb (length ds) 7) && (eqb (length ds) 1 || not (eqb (get_or ds 0 0) (code "0")))
 
 -- what stands at the start of a text: a number, with how many bytes it takes, or none
-unfoldable pub naturalAt : List ℕ → Numeral
-naturalAt t = cond (isNatural (digits t)) (Number (length (digits t)) (pos (value (digits t)))) Nothing
+unfoldable pub natural_at : List ℕ → Numeral
+natural_at t = cond (is_natural (digits t)) (Number (length (digits t)) (pos (value (digits t)))) Nothing
 
 -- "an optional minus", "no -0"
 abbrev pub negative : Numeral → Numeral
@@ -33,7 +33,7 @@ negative (Number k z) = cond (eqb (nat_abs z) 0) Nothing (Number (suc k) (neg_�
 
 unfoldable pub number_at : List ℕ → Numeral
 number_at [] = Nothing
-number_at (c ∷ t) = cond (eqb c minus) (negative (naturalAt t)) (naturalAt (c ∷ t))
+number_at (c ∷ t) = cond (eqb c minus) (negative (natural_at t)) (natural_at (c ∷ t))
 
 -- the numbers of at most 7 digits
 abbrev pub Short : ℤ → Type 0

@@ -7,9 +7,9 @@ prefix test [] = []
 prefix test (c ∷ t) = cond (test c) (c ∷ prefix test t) []
 
 module _ (test : ℕ → Bool) where
-  pub prefix-within : (t : List ℕ) → length (prefix test t) ≤ length t
-  prefix-within [] = omega arith
-  prefix-within (c ∷ t) = go (test c) (prefix-within t)
+  pub prefix_within : (t : List ℕ) → length (prefix test t) ≤ length t
+  prefix_within [] = omega arith
+  prefix_within (c ∷ t) = go (test c) (prefix_within t)
     where
       go : (b : Bool) → length (prefix test t) ≤ length t → length (cond b (c ∷ prefix test t) []) ≤ suc (length t)
       go true h = omega arith
@@ -17,11 +17,11 @@ module _ (test : ℕ → Bool) where
 
   -- the byte at k is one more, or ends them
   module _ (t : List ℕ) (k : ℕ) where
-    pub prefix-goes-on : k < length t → test (get_or t k 0) ≡ true → length (prefix test (drop k t)) ≡ suc (length (prefix test (drop (k + 1) t)))
-    prefix-goes-on h e = rw (add-one k, drop-cons t k 0 h, e)
+    pub prefix_goes_on : k < length t → test (get_or t k 0) ≡ true → length (prefix test (drop k t)) ≡ suc (length (prefix test (drop (k + 1) t)))
+    prefix_goes_on h e = rw (add-one k, drop-cons t k 0 h, e)
 
-    pub prefix-ends : k < length t → test (get_or t k 0) ≡ false → length (prefix test (drop k t)) ≡ 0
-    prefix-ends h e = rw (drop-cons t k 0 h, e)
+    pub prefix_ends : k < length t → test (get_or t k 0) ≡ false → length (prefix test (drop k t)) ≡ 0
+    prefix_ends h e = rw (drop-cons t k 0 h, e)
 
-    pub prefix-over : length t ≤ k → length (prefix test (drop k t)) ≡ 0
-    prefix-over h = rw (drop_of_length-le t h)
+    pub prefix_over : length t ≤ k → length (prefix test (drop k t)) ≡ 0
+    prefix_over h = rw (drop_of_length-le t h)

@@ -1,8 +1,8 @@
 // "A number is an optional minus and 1 to 7 decimal digits, no leading zero, no -0."
 ghost use Rattle.std.specs.Prelude.{true, ◌≡◌, pos, length};
-ghost use Rattle.text_decimals.specs.Bytes.{isDigit};
+ghost use Rattle.text_decimals.specs.Bytes.{is_digit};
 ghost use Rattle.text_numerals.specs.Numerals as numerals;
-ghost use Rattle.text_numerals.specs.Numerals.{isNatural, naturalAt, number_at};
+ghost use Rattle.text_numerals.specs.Numerals.{is_natural, natural_at, number_at};
 
 // What stands at the start of a text.
 #[derive(Drop)]
@@ -15,7 +15,7 @@ pub enum Numeral {
 const MOST_DIGITS: usize = 7;
 
 fn is_digit(byte: u8) -> bool
-    ensures { result ≡ isDigit byte }
+    ensures { result ≡ is_digit byte }
 {
     b'0' <= byte && byte <= b'9'
 }
@@ -37,7 +37,7 @@ fn digits(text: &[u8]) -> usize
 // "1 to 7 decimal digits, no leading zero"
 fn is_natural(text: &[u8], count: usize) -> bool
     requires { count ≡ length (numerals.digits text.now) }
-    ensures { result ≡ isNatural (numerals.digits text.now) }
+    ensures { result ≡ is_natural (numerals.digits text.now) }
 {
     if count == 0 {
         return false;
@@ -53,7 +53,7 @@ fn is_natural(text: &[u8], count: usize) -> bool
 
 // What the digits at the start of a text come to.
 fn value(text: &[u8], count: usize) -> i32
-    requires { (count ≡ length (numerals.digits text.now)) × (isNatural (numerals.digits text.now) ≡ true) }
+    requires { (count ≡ length (numerals.digits text.now)) × (is_natural (numerals.digits text.now) ≡ true) }
     ensures { result ≡ pos (numerals.value (numerals.digits text.now)) }
 {
     let mut sum: u32 = 0;
@@ -66,7 +66,7 @@ fn value(text: &[u8], count: usize) -> i32
 }
 
 fn natural(text: &[u8]) -> Numeral
-    ensures { result ≡ naturalAt text.now }
+    ensures { result ≡ natural_at text.now }
 {
     let length = digits(text);
     if !is_natural(text, length) {
@@ -80,7 +80,7 @@ fn natural(text: &[u8]) -> Numeral
 
 // "an optional minus", "no -0": the number whose digits come after the minus.
 fn negative(text: &[u8]) -> Numeral
-    ensures { result ≡ numerals.negative (naturalAt text.now) }
+    ensures { result ≡ numerals.negative (natural_at text.now) }
 {
     let Numeral::Number { length, value } = natural(text) else {
         return Numeral::Nothing;

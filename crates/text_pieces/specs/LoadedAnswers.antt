@@ -7,39 +7,39 @@ use Rattle.std.proofs.Math.ListN.{drop_of_length-le}
 use Rattle.text_decimals.specs.Written.{Written}
 use Rattle.paper_board.specs.declared.Board.{Board}
 use Rattle.paper_board.specs.declared.Refusal.TheVariants as Refused
-use Rattle.paper_board.specs.Paper.Limits.{emptyBoard}
-use Rattle.paper_board.specs.Paper.Parts.{emptyBooks}
+use Rattle.paper_board.specs.Paper.Limits.{empty_board}
+use Rattle.paper_board.specs.Paper.Parts.{empty_books}
 use Rattle.paper_board.specs.Paper.Refusals.{number_of}
-use Rattle.paper_rules.specs.Order.Empty.{within-emptyBooks}
-use Rattle.paper_closure.specs.PassesClosed.{empty-passes}
-use Rattle.text_replies.specs.Paper.ReplyTexts.{refusalText}
-use Rattle.text_replies.specs.Room.{answerRoom}
+use Rattle.paper_rules.specs.Order.Empty.{within_empty_books}
+use Rattle.paper_closure.specs.PassesClosed.{empty_passes}
+use Rattle.text_replies.specs.Paper.ReplyTexts.{refusal_text}
+use Rattle.text_replies.specs.Room.{answer_room}
 use Rattle.text_pieces.specs.declared.Piece.{Piece}
 use Rattle.text_forms.specs.Paper.Lines.{lines_of}
-use Rattle.text_answers.specs.Paper.Text.{overloaded, serve, loadLimit, serveText, output}
+use Rattle.text_answers.specs.Paper.Text.{overloaded, serve, load_limit, serve_text, output}
 use Rattle.text_pieces.specs.Continues.{Continues, Answers}
 
-module _ (t : List ℕ) (b : Board) (empty : b ≡ emptyBoard emptyBooks) where
-  overloaded-continues : Continues overloaded (refusalText (number_of Refused.Load)) b []
+module _ (t : List ℕ) (b : Board) (empty : b ≡ empty_board empty_books) where
+  overloaded_continues : Continues overloaded (refusal_text (number_of Refused.Load)) b []
   unfolding lines_of serve output
-  overloaded-continues = rw empty (record { output = refl; board = refl })
+  overloaded_continues = rw empty (record { output = refl; board = refl })
 
   -- "A text refused as 11 gives the line `(no 11)` and no other; none of its forms is carried out."
-  pub overloaded-answers : (out out' : List ℕ) (end : ℕ) → loadLimit < length t → answerRoom ≤ length out → length out' ≡ length out
-      → Written out 0 out' end (refusalText (number_of Refused.Load)) answerRoom
-      → Answers (serveText t) t out' (record { board = b; read = length t; written = end })
-  unfolding serveText
-  overloaded-answers out out' end over room same w =
-      rw (lt-leb (length t) loadLimit over)
+  pub overloaded_answers : (out out' : List ℕ) (end : ℕ) → load_limit < length t → answer_room ≤ length out → length out' ≡ length out
+      → Written out 0 out' end (refusal_text (number_of Refused.Load)) answer_room
+      → Answers (serve_text t) t out' (record { board = b; read = length t; written = end })
+  unfolding serve_text
+  overloaded_answers out out' end over room same w =
+      rw (lt-leb (length t) load_limit over)
       (record {
-        continues = rw (w.text, drop_of_length-le t (le_refl (length t))) overloaded-continues;
-        passes = rw empty (empty-passes emptyBooks within-emptyBooks);
+        continues = rw (w.text, drop_of_length-le t (le_refl (length t))) overloaded_continues;
+        passes = rw empty (empty_passes empty_books within_empty_books);
         read = omega arith;
         written = omega (arith, w.room);
         progress = λ some. some;
       })
 
-  pub loaded-answers : (out : List ℕ) (piece : Piece) → length t ≤ loadLimit → Answers (serve b (lines_of t)) t out piece
-      → Answers (serveText t) t out piece
-  unfolding serveText
-  loaded-answers out piece within = rw (le-leb (length t) loadLimit within, ← empty) λ h. h
+  pub loaded_answers : (out : List ℕ) (piece : Piece) → length t ≤ load_limit → Answers (serve b (lines_of t)) t out piece
+      → Answers (serve_text t) t out piece
+  unfolding serve_text
+  loaded_answers out piece within = rw (le-leb (length t) load_limit within, ← empty) λ h. h

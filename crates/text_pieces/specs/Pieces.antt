@@ -7,13 +7,13 @@ use Rattle.paper_board.specs.declared.Board.{Board}
 use Rattle.paper_closure.specs.Passes.{passes}
 use Rattle.text_pieces.specs.declared.Piece.{Piece}
 use Rattle.text_forms.specs.Paper.Lines.{lines_of}
-use Rattle.text_answers.specs.Paper.Text.{serve, serveText, output}
-use Rattle.text_pieces.specs.Continues.{Continues, continues-then, Answers}
+use Rattle.text_answers.specs.Paper.Text.{serve, serve_text, output}
+use Rattle.text_pieces.specs.Continues.{Continues, continues_then, Answers}
 
 -- the pieces ws of a text, which leave board b and the text t: the first as `text_pieces::start` promises, each further one as
 -- `text_pieces::next` does on the board and the text that remain
 pub data Pieces (text : List ℕ) : List (List ℕ) → Board → List ℕ → Type 0 where
-  first : {out : List ℕ} {piece : Piece} → Answers (serveText text) text out piece
+  first : {out : List ℕ} {piece : Piece} → Answers (serve_text text) text out piece
       → Pieces text (take piece.written out ∷ []) piece.board (drop piece.read text)
   further : {ws : List (List ℕ)} {b : Board} {t out : List ℕ} {piece : Piece} → Pieces text ws b t → Answers (serve b (lines_of t)) t out piece
       → Pieces text (ws ++ (take piece.written out ∷ [])) piece.board (drop piece.read t)
@@ -26,25 +26,25 @@ joined (w ∷ ws) = w ++ joined ws
 pub record Whole (text : List ℕ) (b : Board) : Type 0 where
   pub pieces : List (List ℕ)
   pub given : Pieces text pieces b []
-  pub output : joined pieces ≡ output (serveText text).replies
-  pub board : b ≡ (serveText text).board
+  pub output : joined pieces ≡ output (serve_text text).replies
+  pub board : b ≡ (serve_text text).board
 
-joined-further : (ws : List (List ℕ)) (w : List ℕ) → joined (ws ++ (w ∷ [])) ≡ joined ws ++ w
-joined-further [] w = append-nil w
-joined-further (v ∷ ws) w = ap (λ x. v ++ x) (joined-further ws w) ∙ sym (append_assoc v (joined ws) w)
+joined_further : (ws : List (List ℕ)) (w : List ℕ) → joined (ws ++ (w ∷ [])) ≡ joined ws ++ w
+joined_further [] w = append-nil w
+joined_further (v ∷ ws) w = ap (λ x. v ++ x) (joined_further ws w) ∙ sym (append_assoc v (joined ws) w)
 
 module _ {text : List ℕ} where
-  pub pieces-pass : {ws : List (List ℕ)} {b : Board} {t : List ℕ} → Pieces text ws b t → passes b ≡ true
-  pieces-pass (first h) = h.passes
-  pieces-pass (further given h) = h.passes
+  pub pieces_pass : {ws : List (List ℕ)} {b : Board} {t : List ℕ} → Pieces text ws b t → passes b ≡ true
+  pieces_pass (first h) = h.passes
+  pieces_pass (further given h) = h.passes
 
-  pieces-continue : {ws : List (List ℕ)} {b : Board} {t : List ℕ} → Pieces text ws b t → Continues (serveText text) (joined ws) b t
-  pieces-continue (first h) = rw append-nil h.continues
-  pieces-continue (further given h) = rw joined-further (continues-then _ _ _ _ _ _ _ (pieces-continue given) h.continues)
+  pieces_continue : {ws : List (List ℕ)} {b : Board} {t : List ℕ} → Pieces text ws b t → Continues (serve_text text) (joined ws) b t
+  pieces_continue (first h) = rw append-nil h.continues
+  pieces_continue (further given h) = rw joined_further (continues_then _ _ _ _ _ _ _ (pieces_continue given) h.continues)
 
   -- pieces of which nothing remains
   pub pieces_whole : {ws : List (List ℕ)} {b : Board} → Pieces text ws b [] → Whole text b
   unfolding lines_of serve output
   pieces_whole {ws = ws} given =
-      let all = pieces-continue given in
+      let all = pieces_continue given in
       record { pieces = ws; given = given; output = sym (all.output ∙ append-nil (joined ws)); board = sym all.board }

@@ -1,7 +1,7 @@
 // "The text": a text answered from bytes to bytes, a piece at a time.
 ghost use Rattle.std.specs.Prelude.{◌≡◌, true, ◌≤◌, length};
 ghost use Rattle.paper_closure.specs.Passes.{passes};
-ghost use Rattle.text_replies.specs.Room.{answerRoom};
+ghost use Rattle.text_replies.specs.Room.{answer_room};
 ghost use Rattle.text_forms.specs.Paper.Lines.{lines_of};
 ghost use Rattle.text_answers.specs.Paper.Text as paper;
 ghost use Rattle.text_pieces.specs.Continues.{Answers};
@@ -25,7 +25,7 @@ pub struct Piece {
 
 // Answers as many lines as the buffer has room for, at least one. Each line is read from where the last one ended.
 pub fn next(board: Board, text: &[u8], out: &mut [u8]) -> Piece
-    requires { (passes board ≡ true) × (answerRoom ≤ length out.old) }
+    requires { (passes board ≡ true) × (answer_room ≤ length out.old) }
     ensures { Answers (paper.serve board (lines_of text.now)) text.now out.new result }
 {
     let mut board = board;
@@ -63,8 +63,8 @@ pub fn next(board: Board, text: &[u8], out: &mut [u8]) -> Piece
 
 // The first piece of a text, from an empty board.
 pub fn start(text: &[u8], out: &mut [u8]) -> Piece
-    requires { answerRoom ≤ length out.old }
-    ensures { Answers (paper.serveText text.now) text.now out.new result }
+    requires { answer_room ≤ length out.old }
+    ensures { Answers (paper.serve_text text.now) text.now out.new result }
 {
     if LOAD < text.len() {
         let end = put_refusal(out, 0, Refusal::Load);

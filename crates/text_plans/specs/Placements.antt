@@ -7,24 +7,24 @@ use Prim.Native.Nat.{ℕ, zero, suc, ◌+◌}
 use Rattle.std.proofs.Math.Nat.{suc-add}
 use Rattle.paper_rules.specs.Paper.Schedules.{Placing}
 use Rattle.paper_plans.specs.Paper.Lists.{range}
-use Rattle.text_replies.specs.Paper.ReplyTexts.{placementText, placementsText}
+use Rattle.text_replies.specs.Paper.ReplyTexts.{placement_text, placements_text}
 
 module _ (p : Placing) where
   -- the placement of one job
   abbrev placement : ℕ → List ℕ
-  placement j = placementText (p.placed j) j (p.start j)
+  placement j = placement_text (p.placed j) j (p.start j)
 
-  from_next : (i n : ℕ) → placementsText p (range i (suc n)) ≡ placementsText p (range i n) ++ placement (i + n)
-  unfolding placementsText range
+  from_next : (i n : ℕ) → placements_text p (range i (suc n)) ≡ placements_text p (range i n) ++ placement (i + n)
+  unfolding placements_text range
   from_next i zero = rw (add-zero, append-nil (placement i))
   from_next i (suc n) =
-      let later : placementsText p (range (suc i) (suc n)) ≡ placementsText p (range (suc i) n) ++ placement (i + suc n)
+      let later : placements_text p (range (suc i) (suc n)) ≡ placements_text p (range (suc i) n) ++ placement (i + suc n)
       = rw (add-suc i n, ← suc-add i n) (from_next (suc i) n) in
-      ap (λ x. placement i ++ x) later ∙ sym (append_assoc (placement i) (placementsText p (range (suc i) n)) (placement (i + suc n)))
+      ap (λ x. placement i ++ x) later ∙ sym (append_assoc (placement i) (placements_text p (range (suc i) n)) (placement (i + suc n)))
 
-  pub no-placements : placementsText p (range 0 0) ≡ []
-  unfolding placementsText range
-  no-placements = refl
+  pub no_placements : placements_text p (range 0 0) ≡ []
+  unfolding placements_text range
+  no_placements = refl
 
-  pub next-placement : (n : ℕ) → placementsText p (range 0 (n + 1)) ≡ placementsText p (range 0 n) ++ placement n
-  next-placement n = rw (add-one n) (rw (zero-add n) at (from_next 0 n))
+  pub next_placement : (n : ℕ) → placements_text p (range 0 (n + 1)) ≡ placements_text p (range 0 n) ++ placement n
+  next_placement n = rw (add-one n) (rw (zero-add n) at (from_next 0 n))

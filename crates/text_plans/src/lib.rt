@@ -2,11 +2,11 @@
 ghost use Rattle.std.specs.Prelude.{◌+◌, ◌≤◌, ◌<◌, length};
 ghost use Rattle.ground_sets.specs.Bit.{bit};
 ghost use Rattle.text_decimals.specs.Written.{Written};
-ghost use Rattle.paper_board.specs.Paper.Limits.{jobLimit};
-ghost use Rattle.paper_plans.specs.Paper.PlanReply.{plan-found, placing, planReplyOf};
+ghost use Rattle.paper_board.specs.Paper.Limits.{job_limit};
+ghost use Rattle.paper_plans.specs.Paper.PlanReply.{plan_found, placing, plan_reply_of};
 ghost use Rattle.paper_plans.specs.Paper.Lists.{range};
-ghost use Rattle.text_replies.specs.Paper.ReplyTexts.{placementText, placementsText, planText};
-ghost use Rattle.text_replies.specs.Room.{answerRoom, placementRoom, placementsRoom};
+ghost use Rattle.text_replies.specs.Paper.ReplyTexts.{placement_text, placements_text, plan_text};
+ghost use Rattle.text_replies.specs.Room.{answer_room, placement_room, placements_room};
 
 use paper_board::Board;
 use paper_plans::{PlanAnswer, Planned};
@@ -14,8 +14,8 @@ use text_formats::print;
 use text_replies::put_refusal;
 
 fn put_placement(out: &mut [u8], at: usize, placed: u64, job: usize, start: i32) -> usize
-    requires { (job < jobLimit) × (at + placementRoom ≤ length out.old) }
-    ensures { Written out.old at out.new result (placementText (bit placed job) job start) placementRoom }
+    requires { (job < job_limit) × (at + placement_room ≤ length out.old) }
+    ensures { Written out.old at out.new result (placement_text (bit placed job) job start) placement_room }
 {
     if !ground_sets::has(placed, job) {
         return at;
@@ -25,8 +25,8 @@ fn put_placement(out: &mut [u8], at: usize, placed: u64, job: usize, start: i32)
 
 // "(job start) in job order"
 fn put_placements(out: &mut [u8], at: usize, placed: u64, starts: [i32; Board::JOBS]) -> usize
-    requires { at + placementsRoom ≤ length out.old }
-    ensures { Written out.old at out.new result (placementsText (placing placed starts) (range 0 jobLimit)) placementsRoom }
+    requires { at + placements_room ≤ length out.old }
+    ensures { Written out.old at out.new result (placements_text (placing placed starts) (range 0 job_limit)) placements_room }
 {
     let mut end = at;
     for job in 0..Board::JOBS {
@@ -42,8 +42,8 @@ fn put_found(
     placed: u64,
     starts: [i32; Board::JOBS],
 ) -> usize
-    requires { at + answerRoom ≤ length out.old }
-    ensures { Written out.old at out.new result (planText (plan-found tries (placing placed starts))) answerRoom }
+    requires { at + answer_room ≤ length out.old }
+    ensures { Written out.old at out.new result (plan_text (plan_found tries (placing placed starts))) answer_room }
 {
     let listing = print(out, at, b"(plan @ (found", &[tries as u64], &[]);
     let listed = put_placements(out, listing, placed, starts);
@@ -52,8 +52,8 @@ fn put_found(
 
 // "`plan` prints T (the budget where spent), then `(found ..)` [..], `(none)` or `(spent)`."
 pub fn put_plan(out: &mut [u8], at: usize, planned: Planned) -> usize
-    requires { at + answerRoom ≤ length out.old }
-    ensures { Written out.old at out.new result (planText (planReplyOf planned)) answerRoom }
+    requires { at + answer_room ≤ length out.old }
+    ensures { Written out.old at out.new result (plan_text (plan_reply_of planned)) answer_room }
 {
     let answer = planned.answer;
     match answer {

@@ -2,13 +2,13 @@
 use Rattle.std.specs.Prelude.{ℕ, ◌*◌}
 use Rattle.text_decimals.specs.Bytes.{bytes}
 use Rattle.text_formats.specs.Format.{room}
-use Rattle.paper_board.specs.Paper.Limits.{jobLimit}
+use Rattle.paper_board.specs.Paper.Limits.{job_limit}
 
-abbrev pub placementRoom : ℕ
-placementRoom = room (bytes " (@ #)")
+abbrev pub placement_room : ℕ
+placement_room = room (bytes " (@ #)")
 
-abbrev pub placementsRoom : ℕ
-placementsRoom = jobLimit * placementRoom
+abbrev pub placements_room : ℕ
+placements_room = job_limit * placement_room
 
-abbrev pub answerRoom : ℕ
-answerRoom = 2304
+abbrev pub answer_room : ℕ
+answer_room = 2304

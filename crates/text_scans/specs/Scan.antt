@@ -19,23 +19,23 @@ abbrev pub scanned : Option (List ℤ) → Scanned
 scanned none = record { matched = false; numbers = placed places [] }
 scanned (some zs) = record { matched = true; numbers = placed places zs }
 
-abbrev pub startsWith : ℕ → List ℕ → Bool
-startsWith c [] = false
-startsWith c (x ∷ t) = eqb x c
+abbrev pub starts_with : ℕ → List ℕ → Bool
+starts_with c [] = false
+starts_with c (x ∷ t) = eqb x c
 
 -- the numbers found, where nothing is left of the text
-abbrev pub scannedWhole : List ℕ → List ℤ → Scanned
-scannedWhole t zs = cond (eqb (length t) 0) (record { matched = true; numbers = zs }) (scanned none)
+abbrev pub scanned_whole : List ℕ → List ℤ → Scanned
+scanned_whole t zs = cond (eqb (length t) 0) (record { matched = true; numbers = zs }) (scanned none)
 
 -- a text with its first byte apart
-pub starts_none : (c : ℕ) (t : List ℕ) → length t ≡ 0 → startsWith c t ≡ false
+pub starts_none : (c : ℕ) (t : List ℕ) → length t ≡ 0 → starts_with c t ≡ false
 starts_none c [] h = refl
 starts_none c (x ∷ t) h = absurd (omega arith)
 
-pub starts_first : (c : ℕ) (t : List ℕ) → 0 < length t → startsWith c t ≡ eqb (get_or t 0 0) c
+pub starts_first : (c : ℕ) (t : List ℕ) → 0 < length t → starts_with c t ≡ eqb (get_or t 0 0) c
 starts_first c [] h = absurd (omega arith)
 starts_first c (x ∷ t) h = refl
 
-pub starts-some : (c : ℕ) (t : List ℕ) → startsWith c t ≡ true → 0 < length t
-starts-some c [] e = absurd (false≢true e)
-starts-some c (x ∷ t) e = omega arith
+pub starts_some : (c : ℕ) (t : List ℕ) → starts_with c t ≡ true → 0 < length t
+starts_some c [] e = absurd (false≢true e)
+starts_some c (x ∷ t) e = omega arith

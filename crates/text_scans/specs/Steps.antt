@@ -5,38 +5,38 @@ use Rattle.std.proofs.Common.{arith, eq-eqb, ne_eqb}
 use Rattle.text_decimals.specs.Decimal.{decimal}
 use Rattle.text_numerals.specs.Numerals.{number_at}
 use Rattle.text_numerals.specs.declared.Numeral.TheVariants.{Number, Nothing}
-use Rattle.text_formats.specs.Format.{numberMark, naturalMark, filled, scan, with_first}
-use Rattle.text_scans.specs.Scan.{startsWith}
+use Rattle.text_formats.specs.Format.{number_mark, natural_mark, filled, scan, with_first}
+use Rattle.text_scans.specs.Scan.{starts_with}
 
-pub scan-number : (f t : List ℕ) (k : ℕ) (z : ℤ) → 0 < length f → get_or f 0 0 ≡ numberMark → number_at t ≡ Number k z → scan f t ≡ with_first z (scan (drop 1 f) (drop k t))
+pub scan_number : (f t : List ℕ) (k : ℕ) (z : ℤ) → 0 < length f → get_or f 0 0 ≡ number_mark → number_at t ≡ Number k z → scan f t ≡ with_first z (scan (drop 1 f) (drop k t))
 unfolding scan
-scan-number [] t k z more m e = absurd (omega arith)
-scan-number (c ∷ f) t k z more m e = rw (eq-eqb c numberMark m, e)
+scan_number [] t k z more m e = absurd (omega arith)
+scan_number (c ∷ f) t k z more m e = rw (eq-eqb c number_mark m, e)
 
-pub scan-no-number : (f t : List ℕ) → 0 < length f → get_or f 0 0 ≡ numberMark → number_at t ≡ Nothing → scan f t ≡ none
+pub scan_no_number : (f t : List ℕ) → 0 < length f → get_or f 0 0 ≡ number_mark → number_at t ≡ Nothing → scan f t ≡ none
 unfolding scan
-scan-no-number [] t more m e = absurd (omega arith)
-scan-no-number (c ∷ f) t more m e = rw (eq-eqb c numberMark m, e)
+scan_no_number [] t more m e = absurd (omega arith)
+scan_no_number (c ∷ f) t more m e = rw (eq-eqb c number_mark m, e)
 
-pub scan-byte : (f t : List ℕ) → 0 < length f → (get_or f 0 0 ≡ numberMark → ⊥) → scan f t ≡ cond (startsWith (get_or f 0 0) t) (scan (drop 1 f) (drop 1 t)) none
+pub scan_byte : (f t : List ℕ) → 0 < length f → (get_or f 0 0 ≡ number_mark → ⊥) → scan f t ≡ cond (starts_with (get_or f 0 0) t) (scan (drop 1 f) (drop 1 t)) none
 unfolding scan
-scan-byte [] t more m = absurd (omega arith)
-scan-byte (c ∷ f) [] more m = rw (ne_eqb c numberMark m)
-scan-byte (c ∷ f) (x ∷ t) more m = rw (ne_eqb c numberMark m)
+scan_byte [] t more m = absurd (omega arith)
+scan_byte (c ∷ f) [] more m = rw (ne_eqb c number_mark m)
+scan_byte (c ∷ f) (x ∷ t) more m = rw (ne_eqb c number_mark m)
 
-pub scan-nothing : (c : ℕ) (f : List ℕ) → scan (c ∷ f) [] ≡ none
+pub scan_nothing : (c : ℕ) (f : List ℕ) → scan (c ∷ f) [] ≡ none
 unfolding scan number_at
-scan-nothing c f = go (eqb c numberMark) refl
+scan_nothing c f = go (eqb c number_mark) refl
   where
-    go : (b : Bool) → eqb c numberMark ≡ b → scan (c ∷ f) [] ≡ none
+    go : (b : Bool) → eqb c number_mark ≡ b → scan (c ∷ f) [] ≡ none
     go true m = rw m
     go false m = rw m
 
-pub filled-number : (c : ℕ) (f : List ℕ) (zs : List ℤ) → eqb c naturalMark ≡ false → eqb c numberMark ≡ true
+pub filled_number : (c : ℕ) (f : List ℕ) (zs : List ℤ) → eqb c natural_mark ≡ false → eqb c number_mark ≡ true
     → filled (c ∷ f) [] zs ≡ decimal (get_or zs 0 (pos 0)) ++ filled f [] (drop 1 zs)
 unfolding filled
-filled-number c f zs n m = rw (n, m)
+filled_number c f zs n m = rw (n, m)
 
-pub filled-byte : (c : ℕ) (f : List ℕ) (zs : List ℤ) → eqb c naturalMark ≡ false → eqb c numberMark ≡ false → filled (c ∷ f) [] zs ≡ c ∷ filled f [] zs
+pub filled_byte : (c : ℕ) (f : List ℕ) (zs : List ℤ) → eqb c natural_mark ≡ false → eqb c number_mark ≡ false → filled (c ∷ f) [] zs ≡ c ∷ filled f [] zs
 unfolding filled
-filled-byte c f zs n m = rw (n, m)
+filled_byte c f zs n m = rw (n, m)

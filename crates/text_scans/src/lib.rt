@@ -2,8 +2,8 @@
 ghost use Rattle.std.proofs.Math.Option.{none};
 ghost use Rattle.std.specs.Prelude.{◌≡◌, ◌≤◌};
 ghost use Rattle.text_formats.specs.Format as formats;
-ghost use Rattle.text_formats.specs.Format.{marks, numberMark};
-ghost use Rattle.text_scans.specs.Scan.{places, scanned, startsWith, scannedWhole};
+ghost use Rattle.text_formats.specs.Format.{marks, number_mark};
+ghost use Rattle.text_scans.specs.Scan.{places, scanned, starts_with, scanned_whole};
 
 use text_numerals::{Numeral, number};
 
@@ -29,7 +29,7 @@ fn unmatched() -> Scanned
 }
 
 fn starts_with(text: &[u8], byte: u8) -> bool
-    ensures { result ≡ startsWith byte text.now }
+    ensures { result ≡ starts_with byte text.now }
 {
     if text.len() == 0 {
         return false;
@@ -39,7 +39,7 @@ fn starts_with(text: &[u8], byte: u8) -> bool
 
 // The numbers found, where the text is used up.
 fn whole(text: &[u8], numbers: [i32; PLACES]) -> Scanned
-    ensures { result ≡ scannedWhole text.now numbers }
+    ensures { result ≡ scanned_whole text.now numbers }
 {
     if 0 < text.len() {
         return unmatched();
@@ -51,7 +51,7 @@ fn whole(text: &[u8], numbers: [i32; PLACES]) -> Scanned
 }
 
 pub fn scan(format: &[u8], text: &[u8]) -> Scanned
-    requires { marks numberMark format.now ≤ places }
+    requires { marks number_mark format.now ≤ places }
     ensures { result ≡ scanned (formats.scan format.now text.now) }
 {
     let mut f = format;

@@ -6,8 +6,8 @@ use crate::{ffi, Board, Mark, Pair, Plan, Refusal, Row};
 /// [`Refusal::Board`].
 #[derive(Clone, Debug, PartialEq, Eq, Hash)]
 pub struct Dock {
-    // It passes check 0. It starts as the empty board (theorem `empty-board-passes`) or as one that `bayboard_passes` accepted; only the
-    // calls below write it, and what a call leaves of a board that passes, refused or not, passes too (theorem `left-passes`):
+    // It passes check 0. It starts as the empty board (theorem `empty_board_passes`) or as one that `bayboard_passes` accepted; only the
+    // calls below write it, and what a call leaves of a board that passes, refused or not, passes too (theorem `left_passes`):
     // crates/call_exports/specs/LeftPasses.antt.
     board: Board,
 }

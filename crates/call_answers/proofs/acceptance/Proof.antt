@@ -4,8 +4,8 @@ use borrow.Author.Rules.{rules}
 use Rattle.call_answers.proofs.acceptance.Statement.{statement}
 use Rattle.call_answers.proofs.acceptance.Tie as tie
 
-pub acceptance-spec : {M : Type 1} → statement M
-acceptance-spec =
+pub acceptance_spec : {M : Type 1} → statement M
+acceptance_spec =
     tie.close
     (tie.spec
     (λ c. search rules)

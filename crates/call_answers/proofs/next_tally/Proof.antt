@@ -3,5 +3,5 @@ use borrow.Author.Rules.{rules}
 use Rattle.call_answers.proofs.next_tally.Statement.{statement}
 use Rattle.call_answers.proofs.next_tally.Tie as tie
 
-pub next-tally-spec : {M : Type 1} → statement M
-next-tally-spec = tie.close (tie.spec (λ c. search rules) (λ c. search rules) (λ c. search rules))
+pub next_tally_spec : {M : Type 1} → statement M
+next_tally_spec = tie.close (tie.spec (λ c. search rules) (λ c. search rules) (λ c. search rules))

@@ -11,5 +11,5 @@ returns c =
     let f = c.before.before.ranges in
     rw (← simp (to_z-of_z, f.budget) at c.before.between.ensures) (c.line.ensures [] no_line)
 
-pub budget-check-spec : {M : Type 1} → statement M
-budget-check-spec = tie.close (tie.spec (λ c κs. search rules) (λ c κs. search rules) returns)
+pub budget_check_spec : {M : Type 1} → statement M
+budget_check_spec = tie.close (tie.spec (λ c κs. search rules) (λ c κs. search rules) returns)

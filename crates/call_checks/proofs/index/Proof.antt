@@ -2,15 +2,15 @@
 use native.Mathlib.Omega.{arith}
 use mir.Syntax.{w64}
 use mir.ValLaws.{to_z-of_z}
-use Rattle.call_checks.specs.CastNumber.{number-mag, cast_fits, cast-number}
+use Rattle.call_checks.specs.CastNumber.{number_mag, cast_fits, cast_number}
 use Rattle.call_checks.proofs.index.Statement.{statement}
 use Rattle.call_checks.proofs.index.Tie as tie
 
 cast-result : tie.Need-overflow-cast-result
-cast-result c = simp (to_z-of_z, c.ranges.number) (cast_fits w64 c.args.number c.requires (omega (arith, number-mag c.args.number)))
+cast-result c = simp (to_z-of_z, c.ranges.number) (cast_fits w64 c.args.number c.requires (omega (arith, number_mag c.args.number)))
 
 returns : tie.Need-returns
-returns c = simp (to_z-of_z, c.ranges.number) (cast-number c.args.number c.requires)
+returns c = simp (to_z-of_z, c.ranges.number) (cast_number c.args.number c.requires)
 
-pub index-spec : {M : Type 1} → statement M
-index-spec = tie.close (tie.spec cast-result returns)
+pub index_spec : {M : Type 1} → statement M
+index_spec = tie.close (tie.spec cast-result returns)

@@ -11,5 +11,5 @@ returns c =
     let f = c.before.before.ranges in
     rw (← simp (to_z-of_z, f.job) at c.before.is-job.ensures) (c.line.ensures [] no_line)
 
-pub job-check-spec : {M : Type 1} → statement M
-job-check-spec = tie.close (tie.spec (λ c κs. search rules) (λ c κs. search rules) returns)
+pub job_check_spec : {M : Type 1} → statement M
+job_check_spec = tie.close (tie.spec (λ c κs. search rules) (λ c κs. search rules) returns)

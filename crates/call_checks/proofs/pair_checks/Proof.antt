@@ -13,6 +13,6 @@ returns c =
     let same = simp (to_z-of_z, f.a, f.b) at c.before.before.is_same.ensures in
     rw (← jobs, ← same) (c.line2.ensures _ (c.before.line.ensures [] no_line))
 
-pub pair-checks-spec : {M : Type 1} → statement M
-pair-checks-spec =
+pub pair_checks_spec : {M : Type 1} → statement M
+pair_checks_spec =
     tie.close (tie.spec (λ c κs. search rules) (λ c κs. search rules) (λ c κs. search rules) (λ c κs. search rules) returns)

@@ -17,8 +17,8 @@ returns c =
     at (c.before.before.window-lines.ensures _ (c.before.before.before.line.ensures [] no_line)) in
     rw (← length, ← mark) (c.line3.ensures _ (c.before.line2.ensures _ window))
 
-pub addition-checks-spec : {M : Type 1} → statement M
-addition-checks-spec =
+pub addition_checks_spec : {M : Type 1} → statement M
+addition_checks_spec =
     tie.close
     (tie.spec
     (λ c. search rules)

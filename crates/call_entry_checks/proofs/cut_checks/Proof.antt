@@ -13,5 +13,5 @@ returns c =
     let window = simp (to_z-of_z, f.earliest, f.latest) at (c.before.window-lines.ensures [] no_line) in
     rw (← job) (c.line.ensures _ window)
 
-pub cut-checks-spec : {M : Type 1} → statement M
-cut-checks-spec = tie.close (tie.spec (λ c κs. search rules) (λ c κs. search rules) (λ c κs. search rules) returns)
+pub cut_checks_spec : {M : Type 1} → statement M
+cut_checks_spec = tie.close (tie.spec (λ c κs. search rules) (λ c κs. search rules) (λ c κs. search rules) returns)

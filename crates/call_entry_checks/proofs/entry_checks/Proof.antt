@@ -37,8 +37,8 @@ returns-4 c =
     let d : SFits w32 given.1.1.0 = search rules in
     rw is (simp (to_z-of_z, j, e, d) at c.cut-checks.ensures)
 
-pub entry-checks-spec : {M : Type 1} → statement M
-entry-checks-spec =
+pub entry_checks_spec : {M : Type 1} → statement M
+entry_checks_spec =
     tie.close
     (tie.spec
     (λ c. search rules)

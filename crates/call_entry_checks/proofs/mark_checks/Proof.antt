@@ -13,8 +13,8 @@ returns c =
     let job = simp (to_z-of_z, f.job) at c.before.before.is-job.ensures in
     rw (← job, ← mark) (c.line2.ensures _ (c.before.line.ensures [] no_line))
 
-pub mark-checks-spec : {M : Type 1} → statement M
-mark-checks-spec =
+pub mark_checks_spec : {M : Type 1} → statement M
+mark_checks_spec =
     tie.close
     (tie.spec
     (λ c. search rules)

@@ -11,5 +11,5 @@ returns c cs h =
     let window = simp (to_z-of_z, f.earliest, f.latest) at (c.before.line.ensures cs h) in
     rw (← times) (c.line2.ensures _ window)
 
-pub window-lines-spec : {M : Type 1} → statement M
-window-lines-spec = tie.close (tie.spec (λ c κs. search rules) (λ c κs. search rules) (λ c κs. search rules) returns)
+pub window_lines_spec : {M : Type 1} → statement M
+window_lines_spec = tie.close (tie.spec (λ c κs. search rules) (λ c κs. search rules) (λ c κs. search rules) returns)

@@ -6,14 +6,14 @@ use Rattle.paper_entries.proofs.Entry.addition.Symbol as making
 use Rattle.call_in_place.proofs.Called.{holds}
 use Rattle.call_in_place.proofs.Carried.{numbers}
 use Rattle.call_exports.proofs.Entering.{law}
-use Rattle.call_exports.specs.contracts.bayboard_addition as addition
+use Rattle.call_exports.specs.contracts.bayboard_addition
 use Rattle.call_exports.proofs.bayboard_addition.Code as code
 use Rattle.call_exports.specs.contracts.bayboard_addition.Key.{name}
 use Rattle.call_exports.proofs.bayboard_addition.Statement.{statement}
 
-pub bayboard-addition-spec : {M : Type 1} → statement M
+pub bayboard_addition_spec : {M : Type 1} → statement M
 unfolding code.routine
-bayboard-addition-spec 𝓤 𝓛 𝓜 𝓡 =
+bayboard_addition_spec 𝓤 𝓛 𝓜 𝓡 =
     law false (numbers 4) (λ z. paper.addition z.0 z.1.0 z.1.1.0 z.1.1.1.0) 𝓤 𝓛 𝓜 𝓡
     (λ κs a. (addition.clauses 𝓛 𝓜.mem 𝓡.run κs a).ensures) (λ κs a r d e. holds 𝓤 e)
     code.env name making.name making.routine (code.unfolded 𝓤 𝓛.H 𝓜 𝓡)

@@ -6,14 +6,14 @@ use Rattle.paper_entries.proofs.Entry.cut.Symbol as making
 use Rattle.call_in_place.proofs.Called.{holds}
 use Rattle.call_in_place.proofs.Carried.{numbers}
 use Rattle.call_exports.proofs.Entering.{law}
-use Rattle.call_exports.specs.contracts.bayboard_cut as cut
+use Rattle.call_exports.specs.contracts.bayboard_cut
 use Rattle.call_exports.proofs.bayboard_cut.Code as code
 use Rattle.call_exports.specs.contracts.bayboard_cut.Key.{name}
 use Rattle.call_exports.proofs.bayboard_cut.Statement.{statement}
 
-pub bayboard-cut-spec : {M : Type 1} → statement M
+pub bayboard_cut_spec : {M : Type 1} → statement M
 unfolding code.routine
-bayboard-cut-spec 𝓤 𝓛 𝓜 𝓡 =
+bayboard_cut_spec 𝓤 𝓛 𝓜 𝓡 =
     law false (numbers 3) (λ z. paper.other (paper.cut z.0 z.1.0 z.1.1.0)) 𝓤 𝓛 𝓜 𝓡
     (λ κs a. (cut.clauses 𝓛 𝓜.mem 𝓡.run κs a).ensures) (λ κs a r d e. holds 𝓤 e)
     code.env name making.name making.routine (code.unfolded 𝓤 𝓛.H 𝓜 𝓡)

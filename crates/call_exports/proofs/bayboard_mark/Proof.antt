@@ -6,14 +6,14 @@ use Rattle.paper_entries.proofs.Entry.mark.Symbol as making
 use Rattle.call_in_place.proofs.Called.{holds}
 use Rattle.call_in_place.proofs.Carried.{numbers}
 use Rattle.call_exports.proofs.Entering.{law}
-use Rattle.call_exports.specs.contracts.bayboard_mark as mark
+use Rattle.call_exports.specs.contracts.bayboard_mark
 use Rattle.call_exports.proofs.bayboard_mark.Code as code
 use Rattle.call_exports.specs.contracts.bayboard_mark.Key.{name}
 use Rattle.call_exports.proofs.bayboard_mark.Statement.{statement}
 
-pub bayboard-mark-spec : {M : Type 1} → statement M
+pub bayboard_mark_spec : {M : Type 1} → statement M
 unfolding code.routine
-bayboard-mark-spec 𝓤 𝓛 𝓜 𝓡 =
+bayboard_mark_spec 𝓤 𝓛 𝓜 𝓡 =
     law false (numbers 2) (λ z. paper.other (paper.mark z.0 z.1.0)) 𝓤 𝓛 𝓜 𝓡
     (λ κs a. (mark.clauses 𝓛 𝓜.mem 𝓡.run κs a).ensures) (λ κs a r d e. holds 𝓤 e)
     code.env name making.name making.routine (code.unfolded 𝓤 𝓛.H 𝓜 𝓡)

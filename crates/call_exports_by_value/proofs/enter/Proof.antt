@@ -3,7 +3,7 @@ use mathlib.Core.Path.{◌≡◌, sym, ◌∙◌}
 use mathlib.Core.Logic.{⊎_elim}
 use borrow.Author.Rules.{rules}
 use Rattle.paper_closure.specs.Passes.{passes}
-use Rattle.paper_entries.specs.EnterOutcome.{enter-refused}
+use Rattle.paper_entries.specs.EnterOutcome.{enter_refused}
 use Rattle.call_exports_by_value.proofs.enter.Statement.{statement}
 use Rattle.call_exports_by_value.proofs.enter.Tie as tie
 
@@ -19,7 +19,7 @@ enter-requires c κs = sym (decided c.before) ∙ c.if2.true
 returns-2 : tie.Need-returns-2
 returns-2 c =
     let fails = sym (decided c.before.before) ∙ c.before.if2.false in
-    c.refused.ensures ∙ sym (enter-refused _ _ fails)
+    c.refused.ensures ∙ sym (enter_refused _ _ fails)
 
 pub enter_spec : {M : Type 1} → statement M
 enter_spec = tie.close (tie.spec (λ c κs. search rules) enter-requires (λ c κs. search rules) (λ c. search rules) returns-2)

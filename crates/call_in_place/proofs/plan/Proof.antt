@@ -10,14 +10,14 @@ use Rattle.call_in_place.proofs.Called.{holds}
 use Rattle.call_in_place.proofs.Carried.{numbers}
 use Rattle.call_in_place.proofs.Looked.{law}
 use Rattle.call_in_place.proofs.Plain.{struct}
-use Rattle.call_in_place.specs.contracts.plan as plan
+use Rattle.call_in_place.specs.contracts.plan
 use Rattle.call_in_place.proofs.plan.Code as code
 use Rattle.call_in_place.specs.contracts.plan.Key.{name}
 use Rattle.call_in_place.proofs.plan.Statement.{statement}
 
-pub plan-spec : {M : Type 1} → statement M
+pub plan_spec : {M : Type 1} → statement M
 unfolding code.routine
-plan-spec 𝓤 𝓛 𝓜 𝓡 =
+plan_spec 𝓤 𝓛 𝓜 𝓡 =
     law (numbers 1) (struct T.the_type T'.the_laws T'.the_plain T'.the_copy) none (λ b z r. r ≡ planning.plan b z.0) 𝓛 𝓜 𝓡
     (λ κs a. (plan.clauses 𝓛 𝓜.mem 𝓡.run κs a).ensures) (λ κs a r e. holds 𝓤 e)
     code.env name by_value.name by_value.routine (code.unfolded 𝓤 𝓛.H 𝓜 𝓡) code.calls-call-dock::Dock::plan (met 𝓤 𝓛 𝓜 𝓡)

@@ -14,5 +14,5 @@ returns-3 c = rw (c.before.if1.false, c.if3.true)
 returns-4 : tie.Need-returns-4
 returns-4 c = rw (c.before.if1.false, c.if3.false)
 
-pub arcs-spec : {M : Type 1} → statement M
-arcs-spec = tie.close (tie.spec returns returns-2 returns-3 returns-4)
+pub arcs_spec : {M : Type 1} → statement M
+arcs_spec = tie.close (tie.spec returns returns-2 returns-3 returns-4)

@@ -4,28 +4,28 @@ use mathlib.Core.Option.{none}
 use native.Mathlib.Omega.{arith}
 use borrow.Author.Rules.{rules}
 use mir.ValLaws.{to_z-of_z}
-use Rattle.paper_closure.specs.PassesClosed.{passes-within}
-use Rattle.paper_entries.specs.Paper.Checks.{pairChecks, firstRefusal}
+use Rattle.paper_closure.specs.PassesClosed.{passes_within}
+use Rattle.paper_entries.specs.Paper.Checks.{pair_checks, first_refusal}
 use Rattle.paper_entries.specs.Paper.Looking.{pair}
-use Rattle.call_checks.specs.RefusalOf.{refusalOf}
-use Rattle.paper_entries.specs.CallNumbers.{PairNumbers, pair-numbers}
+use Rattle.call_checks.specs.RefusalOf.{refusal_of}
+use Rattle.paper_entries.specs.CallNumbers.{PairNumbers, pair_numbers}
 use Rattle.call_pairs.proofs.pair.Statement.{statement}
 use Rattle.call_pairs.proofs.pair.Tie as tie
 
 -- what the checks say, with the numbers as they were given
 said : (c : tie.After-pair-checks)
     → let a = c.before.args in
-    refusalOf c.pair-checks.result ≡ firstRefusal (pairChecks a.board.jobs a.a a.b)
+    refusal_of c.pair-checks.result ≡ first_refusal (pair_checks a.board.jobs a.a a.b)
 said c = simp (to_z-of_z, c.before.ranges.a, c.before.ranges.b) at c.pair-checks.ensures
 
 -- past it no check refuses
-let-pass : (c : tie.After-enum-told)
+let_pass : (c : tie.After-enum-told)
     → let a = c.before.before.before.args in
-    none ≡ firstRefusal (pairChecks a.board.jobs a.a a.b)
-let-pass c = rw c.enum_told.given.1 at (said c.before.before)
+    none ≡ first_refusal (pair_checks a.board.jobs a.a a.b)
+let_pass c = rw c.enum_told.given.1 at (said c.before.before)
 
 numbers : (c : tie.After-enum-told) → let a = c.before.before.before.args in PairNumbers a.board.jobs a.a a.b
-numbers c = pair-numbers _ _ _ (sym (let-pass c))
+numbers c = pair_numbers _ _ _ (sym (let_pass c))
 
 index-requires : tie.Need-index-requires
 index-requires c κs = simp (to_z-of_z, c.before.before.before.ranges.a) (numbers c).first.low
@@ -39,7 +39,7 @@ shown-pair-requires c κs =
     let start = told.before.before.before in
     let first = simp (to_z-of_z, start.ranges.a) at c.before.index.ensures in
     let second = simp (to_z-of_z, start.ranges.b) at c.index2.ensures in
-    let within = passes-within _ start.requires in
+    let within = passes_within _ start.requires in
     let h = numbers told in (
       within,
       omega (arith, first, h.first.high, within.limits.jobs),
@@ -59,7 +59,7 @@ returns-2 c =
     let start = told.before.before.before in
     let first = simp (to_z-of_z, start.ranges.a) at c.before.before.index.ensures in
     let second = simp (to_z-of_z, start.ranges.b) at c.before.index2.ensures in
-    rw (start.requires, ← let-pass told, pair) (rw (first, second) at c.shown-pair.ensures)
+    rw (start.requires, ← let_pass told, pair) (rw (first, second) at c.shown-pair.ensures)
 
 pub pair_spec : {M : Type 1} → statement M
 pair_spec =

@@ -6,8 +6,8 @@ use Rattle.call_pairs.proofs.shown_arcs.Tie as tie
 returns : tie.Need-returns
 returns c = rw (← c.before.before.before.has.ensures, ← c.before.has2.ensures) c.arcs.ensures
 
-pub shown-arcs-spec : {M : Type 1} → statement M
-shown-arcs-spec =
+pub shown_arcs_spec : {M : Type 1} → statement M
+shown_arcs_spec =
     tie.close
     (tie.spec
     (λ c. search rules)

@@ -4,7 +4,7 @@ use mir.Syntax.{w32}
 use mir.Val.{SFits}
 use mir.ValLaws.{to_z-of_z}
 use Rattle.paper_board.specs.Paper.View.{row_of}
-use Rattle.paper_board.specs.BoardTests.Ranges.{ranges, time-moderate}
+use Rattle.paper_board.specs.BoardTests.Ranges.{ranges, time_moderate}
 use Rattle.call_pairs.proofs.shown_gap.Statement.{statement}
 use Rattle.call_pairs.proofs.shown_gap.Tie as tie
 
@@ -15,7 +15,7 @@ gap-requires c κs =
     let row = ranges a.t1 start.requires.0 in
     let early : SFits w32 (row_of a.t1 a.b).earliest = search rules in
     let late : SFits w32 (row_of a.t1 a.a).latest = search rules in
-    simp (to_z-of_z, early, late) (time-moderate (row a.b).earliest, time-moderate (row a.a).latest)
+    simp (to_z-of_z, early, late) (time_moderate (row a.b).earliest, time_moderate (row a.a).latest)
 
 returns : tie.Need-returns
 returns c =
@@ -25,7 +25,7 @@ returns c =
     let gap : SFits w32 c.gap.result = search rules in
     simp (to_z-of_z, gap) (simp (to_z-of_z, early, late) at c.gap.ensures)
 
-pub shown-gap-spec : {M : Type 1} → statement M
-shown-gap-spec =
+pub shown_gap_spec : {M : Type 1} → statement M
+shown_gap_spec =
     tie.close
     (tie.spec (λ c. search rules) (λ c. search rules) (λ c. search rules) (λ c. search rules) gap-requires returns)

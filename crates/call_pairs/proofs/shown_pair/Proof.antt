@@ -27,8 +27,8 @@ returns-2 c =
       | inr w ↦ rw (sym c.before.is_live.ensures ∙ w.left)
     ]
 
-pub shown-pair-spec : {M : Type 1} → statement M
-shown-pair-spec =
+pub shown_pair_spec : {M : Type 1} → statement M
+shown_pair_spec =
     tie.close
     (tie.spec
     (λ c. search rules)

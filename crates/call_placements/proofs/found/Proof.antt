@@ -6,5 +6,5 @@ use Rattle.call_placements.proofs.found.Tie as tie
 returns : tie.Need-returns
 returns c = rw c.starts.ensures
 
-pub found-spec : {M : Type 1} → statement M
-found-spec = tie.close (tie.spec (λ c κs. search rules) returns)
+pub found_spec : {M : Type 1} → statement M
+found_spec = tie.close (tie.spec (λ c κs. search rules) returns)

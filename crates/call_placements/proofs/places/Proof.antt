@@ -14,5 +14,5 @@ returns c =
 returns-2 : tie.Need-returns-2
 returns-2 c = rw (← c.before.intersection.ensures, ne_eqb _ 0 c.if1.false)
 
-pub places-spec : {M : Type 1} → statement M
-places-spec = tie.close (tie.spec (λ c κs. search rules) returns returns-2)
+pub places_spec : {M : Type 1} → statement M
+places_spec = tie.close (tie.spec (λ c κs. search rules) returns returns-2)

@@ -11,14 +11,14 @@ use Rattle.ground_arithmetic.specs.Time.{greater}
 use Rattle.paper_board.specs.Paper.Limits.{IsTime}
 use Rattle.paper_rules.specs.Paper.Rules.{E}
 use Rattle.paper_board.specs.Paper.View.{view}
-use Rattle.paper_board.specs.BoardTests.Live.{valid-yes}
-use Rattle.paper_board.specs.BoardTests.Ranges.{ranges, greater-time, time-moderate, length-moderate}
-use Rattle.engine_sums.specs.RaiseExact.{lengths-within}
-use Rattle.engine_sums.specs.SumLaws.{time-fits, length-fits}
-use Rattle.paper_plans.specs.Paper.Planner.{startList}
+use Rattle.paper_board.specs.BoardTests.Live.{valid_yes}
+use Rattle.paper_board.specs.BoardTests.Ranges.{ranges, greater_time, time_moderate, length_moderate}
+use Rattle.engine_sums.specs.RaiseExact.{lengths_within}
+use Rattle.engine_sums.specs.SumLaws.{time_fits, length_fits}
+use Rattle.paper_plans.specs.Paper.Planner.{start_list}
 use Rattle.call_placements.specs.Stack.{stack}
 use Rattle.call_placements.specs.PlannerState.{at}
-use Rattle.call_placements.specs.Starts.{Listed, none-listed, next-listed}
+use Rattle.call_placements.specs.Starts.{Listed, none_listed, next_listed}
 use Rattle.call_placements.proofs.starts.Statement.{statement}
 use Rattle.call_placements.proofs.starts.Tie as tie
 
@@ -34,25 +34,25 @@ job-fits : (c : tie.In-loop invariant-loop decreases-loop) → get_or c.before.b
 job-fits c =
     let start = c.before.before in
     let h = start.requires.0 in
-    omega (arith, (valid-yes (view start.args.t1) _ (start.requires.2 c.before.loop.k c.loop-test.true).0).0, h.limits.jobs)
+    omega (arith, (valid_yes (view start.args.t1) _ (start.requires.2 c.before.loop.k c.loop-test.true).0).0, h.limits.jobs)
 
-start-read : (c : tie.After-greater invariant-loop decreases-loop)
+start_read : (c : tie.After-greater invariant-loop decreases-loop)
     → let s = c.before.before in
     let a = s.before.before.args in
     c.greater.result ≡ greater (E (view a.t1) (get_or a.t2 s.before.loop.k 0)) (to_z w32 s.before.loop.free)
-start-read c =
+start_read c =
     let start = c.before.before.before.before in
     let r = ranges start.args.t1 start.requires.0 (get_or start.args.t2 c.before.before.before.loop.k 0) in
-    simp (to_z-of_z, time-fits r.earliest) at c.greater.ensures
+    simp (to_z-of_z, time_fits r.earliest) at c.greater.ensures
 
 start-time : (c : tie.After-greater invariant-loop decreases-loop) → IsTime c.greater.result
 start-time c =
     let start = c.before.before.before.before in
     let r = ranges start.args.t1 start.requires.0 (get_or start.args.t2 c.before.before.before.loop.k 0) in
-    rw (start-read c) (greater-time r.earliest c.before.before.before.loop.invariant.1.dock.time)
+    rw (start_read c) (greater_time r.earliest c.before.before.before.loop.invariant.1.dock.time)
 
 loop-holds : tie.Need-loop-init invariant-loop decreases-loop
-loop-holds c = (omega arith, none-listed c.args.t1 c.requires.0 c.args.t2)
+loop-holds c = (omega arith, none_listed c.args.t1 c.requires.0 c.args.t2)
 
 mul-job : tie.Need-overflow-mul-job invariant-loop decreases-loop
 mul-job c = let k = c.loop-test.true in record { fits = omega (arith, k, c.before.before.requires.1) }
@@ -84,7 +84,7 @@ sum-requires c κs =
     let b = start.args.t1 in
     let j = get_or start.args.t2 c.before.before.before.before.loop.k 0 in
     let t = start-time c.before in
-    simp (to_z-of_z, time-fits t, length-fits (lengths-within b start.requires.0) j) (time-moderate t, length-moderate (ranges b start.requires.0 j))
+    simp (to_z-of_z, time_fits t, length_fits (lengths_within b start.requires.0) j) (time_moderate t, length_moderate (ranges b start.requires.0 j))
 
 loop-again : tie.Need-loop-preserved invariant-loop decreases-loop
 loop-again c =
@@ -94,20 +94,20 @@ loop-again c =
     let b = start.args.t1 in
     let l = s.before.loop in
     let k = s.loop-test.true in
-    let starts = time-fits (start-time g) in
+    let starts = time_fits (start-time g) in
     let ends : SFits w32 c.sum.result = search rules in
-    let finish = simp (to_z-of_z, starts, length-fits (lengths-within b start.requires.0) (get_or start.args.t2 l.k 0)) at c.sum.ensures in
-    (omega (arith, k), simp (to_z-of_z, starts, ends) (next-listed b start.requires.0 _ _ _ _ _ _ l.invariant.1 (start.requires.2 l.k k).1 (start-read g) finish))
+    let finish = simp (to_z-of_z, starts, length_fits (lengths_within b start.requires.0) (get_or start.args.t2 l.k 0)) at c.sum.ensures in
+    (omega (arith, k), simp (to_z-of_z, starts, ends) (next_listed b start.requires.0 _ _ _ _ _ _ l.invariant.1 (start.requires.2 l.k k).1 (start_read g) finish))
 
 returns : tie.Need-returns invariant-loop decreases-loop
 returns c =
     let l = c.before.loop in
     let end = c.loop-test.false in
     let all : l.k ≡ c.before.before.args.count = omega (arith, l.invariant.0, end) in
-    l.invariant.1.list ∙ ap (λ (n : ℕ). startList (view c.before.before.args.t1) (stack (at c.before.before.args.t2) n)) all
+    l.invariant.1.list ∙ ap (λ (n : ℕ). start_list (view c.before.before.args.t1) (stack (at c.before.before.args.t2) n)) all
 
-pub starts-spec : {M : Type 1} → statement M
-starts-spec =
+pub starts_spec : {M : Type 1} → statement M
+starts_spec =
     tie.close
     (tie.spec
     invariant-loop

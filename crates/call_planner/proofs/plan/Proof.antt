@@ -4,32 +4,32 @@ use mathlib.Core.List.{[], ◌∷◌}
 use mathlib.Core.Option.{none}
 use borrow.Author.Rules.{rules}
 use mir.ValLaws.{to_z-of_z}
-use Rattle.paper_closure.specs.PassesClosed.{passes-within}
-use Rattle.paper_entries.specs.Paper.Checks.{budgetCheck, firstRefusal}
-use Rattle.call_checks.specs.RefusalOf.{refusalOf}
+use Rattle.paper_closure.specs.PassesClosed.{passes_within}
+use Rattle.paper_entries.specs.Paper.Checks.{budget_check, first_refusal}
+use Rattle.call_checks.specs.RefusalOf.{refusal_of}
 use Rattle.paper_plans.specs.Paper.Planner.{plan}
-use Rattle.paper_plans.specs.PlanLaws.{budget-within}
+use Rattle.paper_plans.specs.PlanLaws.{budget_within}
 use Rattle.call_planner.proofs.plan.Statement.{statement}
 use Rattle.call_planner.proofs.plan.Tie as tie
 
 -- what the check says, with the budget as it was given
-said : (c : tie.After-budget-check) → refusalOf c.budget-check.result ≡ firstRefusal (budgetCheck c.before.args.budget ∷ [])
+said : (c : tie.After-budget-check) → refusal_of c.budget-check.result ≡ first_refusal (budget_check c.before.args.budget ∷ [])
 said c = simp (to_z-of_z, c.before.ranges.budget) at c.budget-check.ensures
 
 -- past it no check refuses
-let-pass : (c : tie.After-enum-told) → none ≡ firstRefusal (budgetCheck c.before.before.before.args.budget ∷ [])
-let-pass c = rw c.enum_told.given.1 at (said c.before.before)
+let_pass : (c : tie.After-enum-told) → none ≡ first_refusal (budget_check c.before.before.before.args.budget ∷ [])
+let_pass c = rw c.enum_told.given.1 at (said c.before.before)
 
 marked-requires : tie.Need-marked-requires
-marked-requires c κs = (passes-within _ c.before.before.before.before.before.requires).limits.jobs
+marked-requires c κs = (passes_within _ c.before.before.before.before.before.requires).limits.jobs
 
 budget-value-requires : tie.Need-budget-value-requires
 budget-value-requires c κs =
     let told = c.before.before.before in
-    simp (to_z-of_z, told.before.before.before.ranges.budget) (budget-within _ (sym (let-pass told))).0
+    simp (to_z-of_z, told.before.before.before.ranges.budget) (budget_within _ (sym (let_pass told))).0
 
 search-requires : tie.Need-search-requires
-search-requires c κs = (passes-within _ c.before.before.before.before.before.before.before.requires, c.before.marked.ensures)
+search-requires c κs = (passes_within _ c.before.before.before.before.before.before.before.requires, c.before.marked.ensures)
 
 returns : tie.Need-returns
 unfolding plan
@@ -43,10 +43,10 @@ returns-2 c =
     let told = c.before.before.before.before.before in
     let start = told.before.before.before in
     let budget = simp (to_z-of_z, start.ranges.budget) at c.before.budget-value.ensures in
-    rw (start.requires, ← let-pass told, plan) (rw budget at c.search.ensures)
+    rw (start.requires, ← let_pass told, plan) (rw budget at c.search.ensures)
 
-pub plan-spec : {M : Type 1} → statement M
-plan-spec =
+pub plan_spec : {M : Type 1} → statement M
+plan_spec =
     tie.close
     (tie.spec
     (λ c κs. search rules)

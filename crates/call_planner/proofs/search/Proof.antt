@@ -14,17 +14,17 @@ use Rattle.ground_arithmetic.specs.Time.{greater}
 use Rattle.paper_board.specs.Paper.Limits.{IsTime}
 use Rattle.paper_rules.specs.Paper.Rules.{E, L}
 use Rattle.paper_board.specs.Paper.View.{view}
-use Rattle.paper_board.specs.BoardTests.Live.{valid-yes}
-use Rattle.paper_board.specs.BoardTests.Ranges.{ranges, greater-time, time-moderate, length-moderate}
-use Rattle.engine_sums.specs.RaiseExact.{lengths-within}
-use Rattle.engine_sums.specs.SumLaws.{time-fits, length-fits}
-use Rattle.engine_marks.specs.Marked.{bit-valid}
-use Rattle.paper_plans.specs.Paper.Tries.{startAfter, ready, inTime}
+use Rattle.paper_board.specs.BoardTests.Live.{valid_yes}
+use Rattle.paper_board.specs.BoardTests.Ranges.{ranges, greater_time, time_moderate, length_moderate}
+use Rattle.engine_sums.specs.RaiseExact.{lengths_within}
+use Rattle.engine_sums.specs.SumLaws.{time_fits, length_fits}
+use Rattle.engine_marks.specs.Marked.{bit_valid}
+use Rattle.paper_plans.specs.Paper.Tries.{start_after, ready, in_time}
 use Rattle.call_placements.specs.Stack.{stack}
 use Rattle.call_placements.specs.Waiting.{order}
-use Rattle.call_placements.specs.PlannerState.{at, PlannerState, try-test}
-use Rattle.call_planner.specs.Moves.{at-start, taken_back, tried-in-vain, job-placed}
-use Rattle.call_planner.specs.Results.{deep, room, exhausted, overspent, all-are-placed}
+use Rattle.call_placements.specs.PlannerState.{at, PlannerState, try_test}
+use Rattle.call_planner.specs.Moves.{at_start, taken_back, tried_in_vain, job_placed}
+use Rattle.call_planner.specs.Results.{deep, room, exhausted, overspent, all_are_placed}
 use Rattle.call_planner.proofs.search.Statement.{statement}
 use Rattle.call_planner.proofs.search.Tie as tie
 
@@ -65,38 +65,38 @@ abbrev picked : tie.After-sum invariant-loop decreases-loop → tie.After-take-l
 picked c = c.before.before.before.before
 
 -- when the job would start
-start-read : (c : tie.After-greater invariant-loop decreases-loop)
+start_read : (c : tie.After-greater invariant-loop decreases-loop)
     → let n = c.before.before in
     let l = (head n).before.loop in
     let b = (head n).before.before.args.t1 in
     c.greater.result ≡ greater (E (view b) n.take-lowest.result.member) (to_z w32 l.free)
-start-read c =
+start_read c =
     let n = c.before.before in
     let start = (head n).before.before in
     let r = ranges start.args.t1 start.pre.0 n.take-lowest.result.member in
-    simp (to_z-of_z, time-fits r.earliest) at c.greater.ensures
+    simp (to_z-of_z, time_fits r.earliest) at c.greater.ensures
 
 start-time : (c : tie.After-greater invariant-loop decreases-loop) → IsTime c.greater.result
 start-time c =
     let n = c.before.before in
     let start = (head n).before.before in
     let r = ranges start.args.t1 start.pre.0 n.take-lowest.result.member in
-    rw (start-read c) (greater-time r.earliest (held (head n)).dock.time)
+    rw (start_read c) (greater_time r.earliest (held (head n)).dock.time)
 
 -- when it would end
 finish-is : (c : tie.After-sum invariant-loop decreases-loop)
     → let n = picked c in
     let l = (head n).before.loop in
     let b = (head n).before.before.args.t1 in
-    c.sum.result ≡ startAfter (view b) (stack (at l.jobs) l.depth) n.take-lowest.result.member +ℤ L (view b) n.take-lowest.result.member
+    c.sum.result ≡ start_after (view b) (stack (at l.jobs) l.depth) n.take-lowest.result.member +ℤ L (view b) n.take-lowest.result.member
 finish-is c =
     let n = picked c in
     let start = (head n).before.before in
     let b = start.args.t1 in
     let j = n.take-lowest.result.member in
     let g = c.before.before in
-    let starts = start-read g ∙ sym ((held (head n)).dock.start j) in
-    simp (to_z-of_z, time-fits (start-time g), length-fits (lengths-within b start.pre.0) j) at c.sum.ensures
+    let starts = start_read g ∙ sym ((held (head n)).dock.start j) in
+    simp (to_z-of_z, time_fits (start-time g), length_fits (lengths_within b start.pre.0) j) at c.sum.ensures
     ∙ ap (λ (z : ℤ). z +ℤ L (view b) j) starts
 
 abbrev tried : tie.After-places invariant-loop decreases-loop → tie.After-take-lowest invariant-loop decreases-loop
@@ -112,7 +112,7 @@ tested : (c : tie.After-places invariant-loop decreases-loop)
     let l = (head n).before.loop in
     let b = (head n).before.before.args.t1 in
     let ps = stack (at l.jobs) l.depth in
-    c.places.result ≡ (ready (view b) (order b) ps n.take-lowest.result.member && inTime (view b) ps n.take-lowest.result.member)
+    c.places.result ≡ (ready (view b) (order b) ps n.take-lowest.result.member && in_time (view b) ps n.take-lowest.result.member)
 tested c =
     let e = c.before.before.before in
     let n = picked e in
@@ -121,8 +121,8 @@ tested c =
     let s = held (head n) in
     let j = n.take-lowest.result.member in
     let ends : SFits w32 e.sum.result = record { sfits = e.sum.type-inv } in
-    simp (to_z-of_z, ends, time-fits (ranges b start.pre.0 j).latest) at c.places.ensures
-    ∙ try-test b start.pre.0 _ j _ _ s.waiting (finish-is e)
+    simp (to_z-of_z, ends, time_fits (ranges b start.pre.0 j).latest) at c.places.ensures
+    ∙ try_test b start.pre.0 _ j _ _ s.waiting (finish-is e)
 
 -- the job placed
 put_in : (c : tie.After-places invariant-loop decreases-loop) → c.places.result ≡ true
@@ -139,13 +139,13 @@ put_in c holds =
     let n = picked e in
     let s = head n in
     let more = n.before.if3.left in
-    job-placed _ s.before.before.pre.0 _ _ _ _ _ _ _ _ _ (held s) s.loop-test.taken n.take-lowest.ensures
+    job_placed _ s.before.before.pre.0 _ _ _ _ _ _ _ _ _ (held s) s.loop-test.taken n.take-lowest.ensures
     (omega (arith, more, (held s).affordable)) _ (finish-is e) (depth-room s) (sym (tested c) ∙ holds)
 
 loop-holds : tie.Need-loop-init invariant-loop decreases-loop
 loop-holds c =
     let b = c.args.t1 in
-    at-start b c.requires.0 c.args.valid (λ k. ap (λ (x : ℕ). bit x k) c.requires.1 ∙ bit-valid b k) c.args.budget
+    at_start b c.requires.0 c.args.valid (λ k. ap (λ (x : ℕ). bit x k) c.requires.1 ∙ bit_valid b k) c.args.budget
 
 returns : tie.Need-returns invariant-loop decreases-loop
 returns c =
@@ -168,7 +168,7 @@ with-requires c κs =
     let b = s.before.before.args.t1 in
     let deeper = c.if2.false in
     let last = (held s).placements (s.before.loop.depth - 1) (omega (arith, deeper)) in
-    omega (arith, (valid-yes (view b) _ last.job.0).0, s.before.before.requires.0.limits.jobs)
+    omega (arith, (valid_yes (view b) _ last.job.0).0, s.before.before.requires.0.limits.jobs)
 
 mul_left : tie.Need-overflow-mul-left invariant-loop decreases-loop
 mul_left c = record { fits = omega (arith, depth-room c.before.before.before) }
@@ -188,7 +188,7 @@ loop-less c = let deeper = c.before.before.if2.false in omega (arith, deeper)
 loop-again : tie.Need-loop-preserved invariant-loop decreases-loop
 loop-again c =
     let s = went_back c.before.before in
-    rw c.before.with.ensures (simp (to_z-of_z, time-fits s.dock.time) s)
+    rw c.before.with.ensures (simp (to_z-of_z, time_fits s.dock.time) s)
 
 returns-2 : tie.Need-returns-2 invariant-loop decreases-loop
 returns-2 c =
@@ -221,7 +221,7 @@ sum-requires c κs =
     let b = start.args.t1 in
     let r = ranges b start.pre.0 n.take-lowest.result.member in
     let t = start-time c.before in
-    simp (to_z-of_z, time-fits t, length-fits (lengths-within b start.pre.0) n.take-lowest.result.member) (time-moderate t, length-moderate r)
+    simp (to_z-of_z, time_fits t, length_fits (lengths_within b start.pre.0) n.take-lowest.result.member) (time_moderate t, length_moderate r)
 
 mul-places : tie.Need-overflow-mul-places invariant-loop decreases-loop
 mul-places c = let j = (picked c).take-lowest.ensures.width in record { fits = omega (arith, j) }
@@ -262,7 +262,7 @@ loop-again-3 c =
     let n = tried c.before in
     let s = head n in
     let more = n.before.if3.left in
-    tried-in-vain _ s.before.before.pre.0 _ _ _ _ _ _ _ _ _ (held s) s.loop-test.taken n.take-lowest.ensures
+    tried_in_vain _ s.before.before.pre.0 _ _ _ _ _ _ _ _ _ (held s) s.loop-test.taken n.take-lowest.ensures
     (omega (arith, more, (held s).affordable)) (sym (tested c.before) ∙ c.if4.false)
 
 found-requires : tie.Need-found-requires invariant-loop decreases-loop
@@ -276,11 +276,11 @@ returns-3 c =
     let s = c.before in
     let start = s.before.before in
     c.found.ensures
-    ∙ all-are-placed _ start.requires.0 _ _ _ _ _ _ _ _ _ s.before.loop.invariant s.loop-test.false start.args.valid
-    λ k. ap (λ (x : ℕ). bit x k) start.requires.1 ∙ bit-valid start.args.t1 k
+    ∙ all_are_placed _ start.requires.0 _ _ _ _ _ _ _ _ _ s.before.loop.invariant s.loop-test.false start.args.valid
+    λ k. ap (λ (x : ℕ). bit x k) start.requires.1 ∙ bit_valid start.args.t1 k
 
-pub search-spec : {M : Type 1} → statement M
-search-spec =
+pub search_spec : {M : Type 1} → statement M
+search_spec =
     tie.close
     (tie.spec
     invariant-loop

@@ -3,8 +3,8 @@ use borrow.Author.Rules.{rules}
 use Rattle.call_raw_entries.proofs.jobs_with.Statement.{statement}
 use Rattle.call_raw_entries.proofs.jobs_with.Tie as tie
 
-pub jobs-with-spec : {M : Type 1} → statement M
-jobs-with-spec =
+pub jobs_with_spec : {M : Type 1} → statement M
+jobs_with_spec =
     tie.close
     (tie.spec
     (λ c. search rules)

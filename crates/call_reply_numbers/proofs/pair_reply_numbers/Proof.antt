@@ -14,6 +14,6 @@ returns c =
 returns-2 : tie.Need-returns-2
 returns-2 c = rw (c.before.before.pair2.given.1, c.number.ensures)
 
-pub pair-reply-numbers-spec : {M : Type 1} → statement M
-pair-reply-numbers-spec =
+pub pair_reply_numbers_spec : {M : Type 1} → statement M
+pair_reply_numbers_spec =
     tie.close (tie.spec (λ c. search rules) (λ c. search rules) (λ c κs. search rules) returns returns-2)

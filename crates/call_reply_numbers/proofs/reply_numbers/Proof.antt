@@ -12,8 +12,8 @@ returns-2 c = rw c.enum_told.given.1
 returns-3 : tie.Need-returns-3
 returns-3 c = rw (c.before.before.answer2.given.1, c.number.ensures)
 
-pub reply-numbers-spec : {M : Type 1} → statement M
-reply-numbers-spec =
+pub reply_numbers_spec : {M : Type 1} → statement M
+reply_numbers_spec =
     tie.close
     (tie.spec
     (λ c. search rules)

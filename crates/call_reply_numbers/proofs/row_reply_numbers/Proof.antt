@@ -16,6 +16,6 @@ returns c =
 returns-2 : tie.Need-returns-2
 returns-2 c = rw (c.before.before.row2.given.1, c.number.ensures)
 
-pub row-reply-numbers-spec : {M : Type 1} → statement M
-row-reply-numbers-spec =
+pub row_reply_numbers_spec : {M : Type 1} → statement M
+row_reply_numbers_spec =
     tie.close (tie.spec (λ c. search rules) (λ c. search rules) (λ c κs. search rules) returns returns-2)

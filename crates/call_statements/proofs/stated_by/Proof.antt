@@ -5,7 +5,7 @@ use mir.Syntax.{w32}
 use mir.Val.{SFits}
 use mir.ValLaws.{to_z-of_z}
 use Rattle.ground_arithmetic.specs.Linear.{whole}
-use Rattle.paper_entries.specs.CallNumbers.{addition-numbers, pair-numbers, mark-numbers, cut-numbers}
+use Rattle.paper_entries.specs.CallNumbers.{addition_numbers, pair_numbers, mark_numbers, cut_numbers}
 use Rattle.call_statements.proofs.stated_by.Statement.{statement}
 use Rattle.call_statements.proofs.stated_by.Tie as tie
 
@@ -14,7 +14,7 @@ mark-value-requires : tie.Need-mark-value-requires
 mark-value-requires c κs =
     let (given, is) = c.before.entry.given in
     let passed = rw is at c.before.before.before.requires in
-    let h = addition-numbers passed.jobs given.0 given.1.0 given.1.1.0 given.1.1.1.0 passed.passed in
+    let h = addition_numbers passed.jobs given.0 given.1.0 given.1.1.0 given.1.1.1.0 passed.passed in
     let m : SFits w32 given.1.1.1.0 = search rules in
     simp (to_z-of_z, m) (h.low, omega (whole, h.high))
 
@@ -34,14 +34,14 @@ index-requires c κs =
     let (given, is) = c.before.entry2.given in
     let passed = rw is at c.before.before.before.requires in
     let a : SFits w32 given.0 = search rules in
-    simp (to_z-of_z, a) (pair-numbers passed.jobs given.0 given.1.0 passed.passed).first.low
+    simp (to_z-of_z, a) (pair_numbers passed.jobs given.0 given.1.0 passed.passed).first.low
 
 index-requires-2 : tie.Need-index-requires-2
 index-requires-2 c κs =
     let (given, is) = c.before.before.entry2.given in
     let passed = rw is at c.before.before.before.before.requires in
     let b : SFits w32 given.1.0 = search rules in
-    simp (to_z-of_z, b) (pair-numbers passed.jobs given.0 given.1.0 passed.passed).second.low
+    simp (to_z-of_z, b) (pair_numbers passed.jobs given.0 given.1.0 passed.passed).second.low
 
 returns-2 : tie.Need-returns-2
 returns-2 c =
@@ -56,13 +56,13 @@ index-requires-3 c κs =
     let (given, is) = c.before.entry3.given in
     let passed = rw is at c.before.before.before.requires in
     let j : SFits w32 given.0 = search rules in
-    simp (to_z-of_z, j) (mark-numbers passed.jobs given.0 given.1.0 passed.passed).job.low
+    simp (to_z-of_z, j) (mark_numbers passed.jobs given.0 given.1.0 passed.passed).job.low
 
 mark-value-requires-2 : tie.Need-mark-value-requires-2
 mark-value-requires-2 c κs =
     let (given, is) = c.before.before.entry3.given in
     let passed = rw is at c.before.before.before.before.requires in
-    let h = mark-numbers passed.jobs given.0 given.1.0 passed.passed in
+    let h = mark_numbers passed.jobs given.0 given.1.0 passed.passed in
     let m : SFits w32 given.1.0 = search rules in
     simp (to_z-of_z, m) (omega (whole, h.low), h.high)
 
@@ -81,7 +81,7 @@ index-requires-4 c κs =
     let (given, is) = c.before.entry4.given in
     let passed = rw is at c.before.before.before.requires in
     let j : SFits w32 given.0 = search rules in
-    simp (to_z-of_z, j) (cut-numbers passed.jobs given.0 given.1.0 given.1.1.0 passed.passed).job.low
+    simp (to_z-of_z, j) (cut_numbers passed.jobs given.0 given.1.0 given.1.1.0 passed.passed).job.low
 
 returns-4 : tie.Need-returns-4
 returns-4 c =
@@ -91,8 +91,8 @@ returns-4 c =
     let d : SFits w32 given.1.1.0 = search rules in
     rw (is, ← simp (to_z-of_z, j) at c.before.index4.ensures) (simp (to_z-of_z, e, d) at c.cutting.ensures)
 
-pub stated-by-spec : {M : Type 1} → statement M
-stated-by-spec =
+pub stated_by_spec : {M : Type 1} → statement M
+stated_by_spec =
     tie.close
     (tie.spec
     (λ c. search rules)

@@ -3,9 +3,9 @@ use borrow.Author.Rules.{rules}
 use mathlib.Core.Path.{sym, ◌∙◌}
 use Prim.Native.Nat.{◌≤◌}
 use native.Mathlib.Omega.{arith}
-use Rattle.paper_board.specs.Paper.Limits.{jobLimit}
-use Rattle.engine_advance.specs.Advances.{advanced, advanced-none, advanced-struck, struck-sets}
-use Rattle.engine_search.specs.Reads.{arrays-hold}
+use Rattle.paper_board.specs.Paper.Limits.{job_limit}
+use Rattle.engine_advance.specs.Advances.{advanced, advanced_none, advanced_struck, struck_sets}
+use Rattle.engine_search.specs.Reads.{arrays_hold}
 use Rattle.engine_advance.proofs.advance.Statement.{statement}
 use Rattle.engine_advance.proofs.advance.Tie as tie
 
@@ -14,11 +14,11 @@ abbrev marks : tie.After-propagate → tie.After-sets
 marks c = c.before.before.before.before.before.before
 
 -- the jobs have places
-room : (c : tie.Start) → c.args.jobs ≤ jobLimit
+room : (c : tie.Start) → c.args.jobs ≤ job_limit
 room c = omega (arith, c.requires.jobs, c.requires.within.limits.jobs)
 
 propagate-requires : tie.Need-propagate-requires
-propagate-requires c κs = arrays-hold _ c.before.before.before.before.before.before.before.requires.within
+propagate-requires c κs = arrays_hold _ c.before.before.before.before.before.before.before.requires.within
 
 returns : tie.Need-returns
 returns c =
@@ -33,7 +33,7 @@ returns-2 c =
     let ran = both.before.before in
     let (live, valid) = (marks ran).sets.ensures in
     let (onward, shut) = ran.propagate.ensures in
-    (advanced-none _ _ _ _ _ _ _ _ _ live valid _ _ _ _ _ onward shut _ both.intersection.ensures c.if2.true both.intersection.type-inv, λ e. absurd (search rules))
+    (advanced_none _ _ _ _ _ _ _ _ _ live valid _ _ _ _ _ onward shut _ both.intersection.ensures c.if2.true both.intersection.type-inv, λ e. absurd (search rules))
 
 returns-3 : tie.Need-returns-3
 returns-3 c =
@@ -44,12 +44,12 @@ returns-3 c =
     let (live, valid) = (marks ran).sets.ensures in
     let (onward, shut) = ran.propagate.ensures in
     let apart = sym both.intersection.ensures ∙ other.if2.false in (
-      advanced-struck _ _ _ _ _ _ _ _ _ live valid _ _ _ _ _ onward shut apart _ _ _ _ _ _ struck.strike.ensures,
-      λ _. struck-sets _ _ _ _ _ _ _ _ _ live valid _ _ _ _ _ onward shut apart ran.propagate.type-inv _ c.difference.ensures _ _ _ _ _ _ struck.strike.ensures (marks ran).before.before.requires,
+      advanced_struck _ _ _ _ _ _ _ _ _ live valid _ _ _ _ _ onward shut apart _ _ _ _ _ _ struck.strike.ensures,
+      λ _. struck_sets _ _ _ _ _ _ _ _ _ live valid _ _ _ _ _ onward shut apart ran.propagate.type-inv _ c.difference.ensures _ _ _ _ _ _ struck.strike.ensures (marks ran).before.before.requires,
     )
 
-pub advance-spec : {M : Type 1} → statement M
-advance-spec =
+pub advance_spec : {M : Type 1} → statement M
+advance_spec =
     tie.close
     (tie.spec
     (λ c κs. room c.before)

@@ -10,5 +10,5 @@ returns c =
     agree_same start.args.after.now start.args.before.now c.before.before.transpose.result
     c.before.before.transpose.ensures c.same-words.ensures
 
-pub agree-spec : {M : Type 1} → statement M
-agree-spec = tie.close (tie.spec (λ c κs. search rules) (λ c κs. search rules) returns)
+pub agree_spec : {M : Type 1} → statement M
+agree_spec = tie.close (tie.spec (λ c κs. search rules) (λ c κs. search rules) returns)

@@ -29,8 +29,8 @@ loop-again c =
 returns : tie.Need-returns invariant-loop decreases-loop
 returns c = restated c.before.loop.invariant.1 (λ h j l. h j (omega arith)) (λ h j l. h j (omega arith))
 
-pub same-words-spec : {M : Type 1} → statement M
-same-words-spec =
+pub same_words_spec : {M : Type 1} → statement M
+same_words_spec =
     tie.close
     (tie.spec
     invariant-loop

@@ -13,8 +13,8 @@ returns-2 c b = rw (ne_eqb _ _ c.before.before.if1.false, eq-eqb _ _ c.if2.true)
 returns-3 : tie.Need-returns-3
 returns-3 c b = rw (ne_eqb _ _ c.before.before.before.before.if1.false, ne_eqb _ _ c.before.before.if2.false) c.has.ensures
 
-pub is-joined-spec : {M : Type 1} → statement M
-is-joined-spec =
+pub is_joined_spec : {M : Type 1} → statement M
+is_joined_spec =
     tie.close
     (tie.spec
     (λ c. search rules)

@@ -7,8 +7,8 @@ use Rattle.engine_arcs.proofs.link.Tie as tie
 returns : tie.Need-returns
 returns c = rw (c.before.before.with.ensures, c.with2.ensures) (refl, refl)
 
-pub link-spec : {M : Type 1} → statement M
-link-spec =
+pub link_spec : {M : Type 1} → statement M
+link_spec =
     tie.close
     (tie.spec
     (λ c. search rules)

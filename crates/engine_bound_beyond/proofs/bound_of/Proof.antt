@@ -2,9 +2,9 @@
 use borrow.Author.Rules.{rules}
 use mir.ValLaws.{to_z-of_z}
 use Rattle.paper_board.specs.Paper.Values.{side_of}
-use Rattle.engine_sums.specs.Sums.{boundOf}
-use Rattle.engine_sums.specs.SumLaws.{time-fits, time-back-moderate}
-use Rattle.engine_bound_beyond.specs.BoundBeyond.{last-ends-by, last-alone, all-sums}
+use Rattle.engine_sums.specs.Sums.{bound_of}
+use Rattle.engine_sums.specs.SumLaws.{time_fits, time_back_moderate}
+use Rattle.engine_bound_beyond.specs.BoundBeyond.{last_ends_by, last_alone, all_sums}
 use Rattle.engine_bound_beyond.proofs.bound_of.Statement.{statement}
 use Rattle.engine_bound_beyond.proofs.bound_of.Tie as tie
 
@@ -17,7 +17,7 @@ single-bound-requires c κs =
     let apart = c.before.before in
     let start = start_of apart in
     let (_, _, hours, work) = start.pre in
-    (hours, work, apart.before.before.last.ensures.0, time-back-moderate (start.pre.2.time start.args.job))
+    (hours, work, apart.before.before.last.ensures.0, time_back_moderate (start.pre.2.time start.args.job))
 
 returns : tie.Need-returns
 returns c =
@@ -25,17 +25,17 @@ returns c =
     let start = start_of apart in
     let found = apart.before.before.last in
     let a = start.args in
-    let told = simp (to_z-of_z, time-fits (start.pre.2.time a.job)) at c.single-bound.ensures in
+    let told = simp (to_z-of_z, time_fits (start.pre.2.time a.job)) at c.single-bound.ensures in
     let side = side_of a.side in
     rw told
-    (last-alone side a.times.now a.lengths.now a.beyond.now a.job a.set found.result _ found.ensures.0 found.ensures.1 apart.Standing-apart.ensures c.before.before.if1.true)
+    (last_alone side a.times.now a.lengths.now a.beyond.now a.job a.set found.result _ found.ensures.0 found.ensures.1 apart.Standing-apart.ensures c.before.before.if1.true)
 
 ends-by-requires : tie.Need-ends-by-requires
 ends-by-requires c κs =
     let apart = c.before.before.before.before.before in
     let start = start_of apart in
     let (_, _, hours, work) = start.pre in
-    (hours, work, apart.before.before.last.ensures.0, time-back-moderate (start.pre.2.time start.args.job))
+    (hours, work, apart.before.before.last.ensures.0, time_back_moderate (start.pre.2.time start.args.job))
 
 returns-2 : tie.Need-returns-2
 returns-2 c =
@@ -43,26 +43,26 @@ returns-2 c =
     let start = start_of apart in
     let found = apart.before.before.last in
     let a = start.args in
-    let ends = simp (to_z-of_z, time-fits (start.pre.2.time a.job)) at (c.before.ends_by.ensures c.if4.true) in
+    let ends = simp (to_z-of_z, time_fits (start.pre.2.time a.job)) at (c.before.ends_by.ensures c.if4.true) in
     let side = side_of a.side in
-    last-ends-by side a.times.now a.lengths.now a.beyond.now a.job a.set found.result _ found.ensures.0 found.ensures.1 apart.Standing-apart.ensures ends
+    last_ends_by side a.times.now a.lengths.now a.beyond.now a.job a.set found.result _ found.ensures.0 found.ensures.1 apart.Standing-apart.ensures ends
 
 energy-bound-requires : tie.Need-energy-bound-requires
 energy-bound-requires c κs =
     let start = start_of c.before.before.before in
     let (_, _, hours, work) = start.pre in
-    (hours, work, time-back-moderate (start.pre.2.time start.args.job))
+    (hours, work, time_back_moderate (start.pre.2.time start.args.job))
 
 returns-3 : tie.Need-returns-3
 returns-3 c =
     let start = start_of c.before.before.before.before in
     let a = start.args in
-    let told = simp (to_z-of_z, time-fits (start.pre.2.time a.job)) at c.energy-bound.ensures in
+    let told = simp (to_z-of_z, time_fits (start.pre.2.time a.job)) at c.energy-bound.ensures in
     let side = side_of a.side in
-    all-sums side a.times.now a.lengths.now a.beyond.now a.job a.set (boundOf side c.energy-bound.result) told
+    all_sums side a.times.now a.lengths.now a.beyond.now a.job a.set (bound_of side c.energy-bound.result) told
 
-pub bound-of-spec : {M : Type 1} → statement M
-bound-of-spec =
+pub bound_of_spec : {M : Type 1} → statement M
+bound_of_spec =
     tie.close
     (tie.spec
     (λ c κs. search rules)

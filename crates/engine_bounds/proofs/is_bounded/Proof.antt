@@ -11,7 +11,7 @@ use mir.ValLaws.{to_z-of_z}
 use Rattle.paper_board.specs.Paper.View.{row_of}
 use Rattle.paper_board.specs.Paper.Values.{side_of}
 use Rattle.paper_rules.specs.Update.ArraysWithin.{filled}
-use Rattle.engine_windows.specs.WindowLaws.{edge-bound}
+use Rattle.engine_windows.specs.WindowLaws.{edge_bound}
 use Rattle.engine_bounds.proofs.is_bounded.Statement.{statement}
 use Rattle.engine_bounds.proofs.is_bounded.Tie as tie
 
@@ -26,11 +26,11 @@ returns-2 c b =
     let early : SFits w32 (get_or a.earliest.now a.job (pos 0)) = search rules in
     let late : SFits w32 (get_or a.latest.now a.job (pos 0)) = search rules in
     let row = row_of (filled b b.lengths a.earliest.now a.latest.now a.marks.now b.after b.before) a.job in
-    rw (ne_eqb _ _ test.if1.false, sym (edge-bound (side_of a.side) row))
+    rw (ne_eqb _ _ test.if1.false, sym (edge_bound (side_of a.side) row))
     (ap not (simp (to_z-of_z, early, late, start.ranges.time) at c.exceeds.ensures))
 
-pub is-bounded-spec : {M : Type 1} → statement M
-is-bounded-spec =
+pub is_bounded_spec : {M : Type 1} → statement M
+is_bounded_spec =
     tie.close
     (tie.spec
     (λ c. search rules)

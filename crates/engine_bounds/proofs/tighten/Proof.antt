@@ -9,10 +9,10 @@ use mir.ValLaws.{to_z-of_z}
 use Rattle.ground_arithmetic.specs.Bools.{refuted}
 use Rattle.paper_board.specs.Paper.Values.{side_of}
 use Rattle.paper_rules.specs.Update.ArraysWithin.{filled}
-use Rattle.paper_rules.specs.Update.Shown.{bound-shown}
+use Rattle.paper_rules.specs.Update.Shown.{bound_shown}
 use Rattle.engine_windows.specs.Windows.{bounded}
-use Rattle.engine_windows.specs.WindowLaws.{bounded-moderate}
-use Rattle.engine_bounds.specs.Tightens.{bound-fits, bound-cramped}
+use Rattle.engine_windows.specs.WindowLaws.{bounded_moderate}
+use Rattle.engine_bounds.specs.Tightens.{bound_fits, bound_cramped}
 use Rattle.engine_bounds.proofs.tighten.Statement.{statement}
 use Rattle.engine_bounds.proofs.tighten.Tie as tie
 
@@ -21,7 +21,7 @@ returns c b job =
     let start = c.before.before.before.before in
     let a = start.args in
     let board = filled b a.lengths.now a.earliest.now a.latest.now a.marks.now b.after b.before in (
-      λ _. bound-shown board (side_of a.side) a.job _
+      λ _. bound_shown board (side_of a.side) a.job _
           (sym (simp (to_z-of_z, start.ranges.time) at (c.before.is-bounded.ensures board)) ∙ c.if1.true),
       λ e. absurd (refuted e refl),
     )
@@ -44,7 +44,7 @@ holds-requires c κs =
     let a = start.args in
     let (_, moderate, early, long) = start.requires in
     let fits : SFits w32 (get_or a.lengths.now a.job (pos 0)) = search rules in
-    (rw (given c.before) (bounded-moderate (side_of a.side) a.time _ moderate early), simp (to_z-of_z, fits) long)
+    (rw (given c.before) (bounded_moderate (side_of a.side) a.time _ moderate early), simp (to_z-of_z, fits) long)
 
 returns-2 : tie.Need-returns-2
 returns-2 c b job =
@@ -57,7 +57,7 @@ returns-2 c b job =
     let long : SFits w32 (get_or a.lengths.now a.job (pos 0)) = search rules in
     let earliest : SFits w32 at.bounded.result.earliest = search rules in
     let latest : SFits w32 at.bounded.result.latest = search rules in (
-      λ _. bound-fits board (side_of a.side) a.job a.time at.bounded.result job
+      λ _. bound_fits board (side_of a.side) a.job a.time at.bounded.result job
           (sym (simp (to_z-of_z, start.ranges.time) at (first.before.is-bounded.ensures board)) ∙ first.if1.false) (given at)
           _ _ (to_z-of_z w32 _ earliest) (to_z-of_z w32 _ latest) (sym (simp (to_z-of_z, long) at test.before.holds.ensures) ∙ test.if2.true),
       λ e. absurd (refuted e refl),
@@ -73,15 +73,15 @@ returns-3 c b job =
     let long : SFits w32 (get_or a.lengths.now a.job (pos 0)) = search rules in (
       λ e. absurd (refuted refl e),
       λ _. (
-        bound-cramped board (side_of a.side) a.job a.time at.bounded.result job
+        bound_cramped board (side_of a.side) a.job a.time at.bounded.result job
             (sym (simp (to_z-of_z, start.ranges.time) at (first.before.is-bounded.ensures board)) ∙ first.if1.false) (given at)
             (sym (simp (to_z-of_z, long) at c.before.holds.ensures) ∙ c.if2.false),
         refl,
       ),
     )
 
-pub tighten-spec : {M : Type 1} → statement M
-tighten-spec =
+pub tighten_spec : {M : Type 1} → statement M
+tighten_spec =
     tie.close
     (tie.spec
     (λ c κs. search rules)

@@ -5,8 +5,8 @@ use mathlib.Core.Path.{◌∙◌}
 use mir.Syntax.{w32}
 use mir.ValLaws.{to_z-of_z}
 use Rattle.paper_board.specs.Paper.Values.{side_of}
-use Rattle.paper_board.specs.BoardTests.Sets.{Subset, subset-none, subset-with}
-use Rattle.engine_sums.specs.SumLaws.{endAt-moderate}
+use Rattle.paper_board.specs.BoardTests.Sets.{Subset, subset_none, subset_with}
+use Rattle.engine_sums.specs.SumLaws.{end_at_moderate}
 use Rattle.engine_detection.proofs.clashing.Statement.{statement}
 use Rattle.engine_detection.proofs.clashing.Tie as tie
 
@@ -17,14 +17,14 @@ abbrev decreases-loop : tie.decreases-loop
 decreases-loop side set limit times lengths found₀ left₀ found left = left
 
 loop-holds : tie.Need-loop-init invariant-loop decreases-loop
-loop-holds c = (λ x e. e, subset-none _)
+loop-holds c = (λ x e. e, subset_none _)
 
 sum-requires : tie.Need-sum-requires invariant-loop decreases-loop
 sum-requires c κs =
     let walk = c.before in
     let start = walk.before.before.before in
     let (limit, hours, work) = start.requires in
-    let end = endAt-moderate (side_of start.args.side) hours work walk.take-lowest.result.member in
+    let end = end_at_moderate (side_of start.args.side) hours work walk.take-lowest.result.member in
     let end_is = to_z-of_z w32 _ (record { sfits = c.end.type-inv }) ∙ c.end.ensures in
     simp (to_z-of_z, start.ranges.limit) (limit, rw end_is end)
 
@@ -33,7 +33,7 @@ loop-again c =
     let walk = c.before.before.before.before in
     let (left, found) = walk.before.before.loop.invariant in
     let taken = walk.take-lowest.ensures in
-    (λ x e. left x (taken.inside x e), rw c.with.ensures (subset-with _ _ _ found (left _ taken.member)))
+    (λ x e. left x (taken.inside x e), rw c.with.ensures (subset_with _ _ _ found (left _ taken.member)))
 
 loop-again-2 : tie.Need-loop-preserved-2 invariant-loop decreases-loop
 loop-again-2 c =
@@ -44,8 +44,8 @@ loop-again-2 c =
 returns : tie.Need-returns invariant-loop decreases-loop
 returns c = c.before.loop.invariant.1
 
-pub clashing-spec : {M : Type 1} → statement M
-clashing-spec =
+pub clashing_spec : {M : Type 1} → statement M
+clashing_spec =
     tie.close
     (tie.spec
     invariant-loop

@@ -2,7 +2,7 @@
 use borrow.Author.Rules.{rules}
 use Rattle.paper_board.specs.BoardTests.Sets.{Subset}
 use Rattle.engine_arcs.specs.Arcs.{Sound, sound_none}
-use Rattle.engine_detection.specs.Detection.{Beside, beside-more}
+use Rattle.engine_detection.specs.Detection.{Beside, beside_more}
 use Rattle.engine_detection.proofs.detect_beside.Statement.{statement}
 use Rattle.engine_detection.proofs.detect_beside.Tie as tie
 
@@ -21,13 +21,13 @@ loop-again c =
     let (left, run) = walk.before.before.loop.invariant in
     let taken = walk.take-lowest.ensures in
     let member = left _ taken.member in
-    (λ x e. left x (taken.inside x e), beside-more _ _ _ _ _ _ _ _ _ run _ member _ _ c.detect-on.ensures)
+    (λ x e. left x (taken.inside x e), beside_more _ _ _ _ _ _ _ _ _ run _ member _ _ c.detect-on.ensures)
 
 returns : tie.Need-returns invariant-loop decreases-loop
 returns c = c.before.before.before.before.before.before.before.before.loop.invariant.1
 
-pub detect-beside-spec : {M : Type 1} → statement M
-detect-beside-spec =
+pub detect_beside_spec : {M : Type 1} → statement M
+detect_beside_spec =
     tie.close
     (tie.spec
     invariant-loop

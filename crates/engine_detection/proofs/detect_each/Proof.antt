@@ -2,7 +2,7 @@
 use borrow.Author.Rules.{rules}
 use Rattle.paper_board.specs.BoardTests.Sets.{Subset}
 use Rattle.engine_arcs.specs.Arcs.{Sound, sound_none}
-use Rattle.engine_detection.specs.Detection.{Meeting, job-detected}
+use Rattle.engine_detection.specs.Detection.{Meeting, job_detected}
 use Rattle.engine_detection.proofs.detect_each.Statement.{statement}
 use Rattle.engine_detection.proofs.detect_each.Tie as tie
 
@@ -28,14 +28,14 @@ loop-again c =
     let (left, run) = at.loop.inv in
     let taken = walk.take-lowest.ensures in (
       λ x e. left x (taken.inside x e),
-      job-detected _ _ _ _ _ _ _ at.before.before.fits.others.fits _ _ run _ _ _ taken.width (left _ taken.member) others.before.before.kept-apart.type-inv (rw others.before.without.ensures at others.difference.ensures) _ _ found.detect-beside.ensures,
+      job_detected _ _ _ _ _ _ _ at.before.before.fits.others.fits _ _ run _ _ _ taken.width (left _ taken.member) others.before.before.kept-apart.type-inv (rw others.before.without.ensures at others.difference.ensures) _ _ found.detect-beside.ensures,
     )
 
 returns : tie.Need-returns invariant-loop decreases-loop
 returns c = c.before.loop.invariant.1
 
-pub detect-each-spec : {M : Type 1} → statement M
-detect-each-spec =
+pub detect_each_spec : {M : Type 1} → statement M
+detect_each_spec =
     tie.close
     (tie.spec
     invariant-loop

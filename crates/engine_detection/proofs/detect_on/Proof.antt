@@ -4,8 +4,8 @@ use Rattle.engine_detection.specs.Detection.{turned_pair}
 use Rattle.engine_detection.proofs.detect_on.Statement.{statement}
 use Rattle.engine_detection.proofs.detect_on.Tie as tie
 
-pub detect-on-spec : {M : Type 1} → statement M
-detect-on-spec =
+pub detect_on_spec : {M : Type 1} → statement M
+detect_on_spec =
     tie.close
     (tie.spec
     (λ c. search rules)

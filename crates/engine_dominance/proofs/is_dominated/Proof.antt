@@ -3,7 +3,7 @@ use borrow.Author.Rules.{rules}
 use borrow.Author.Tests.{not-true}
 use mathlib.Core.Path.{refl, sym, ◌∙◌}
 use mir.ValLaws.{to_z-of_z}
-use Rattle.ground_sets.specs.BitLaws.{subset-yes}
+use Rattle.ground_sets.specs.BitLaws.{subset_yes}
 use Rattle.ground_arithmetic.specs.Bools.{refuted}
 use Rattle.engine_dominance.specs.Dominance.{tested}
 use Rattle.engine_dominance.proofs.is_dominated.Statement.{statement}
@@ -18,8 +18,8 @@ returns-2 c e =
     let a = start.args in
     let fits = start.ranges in
     let lower = simp (to_z-of_z, fits.time, fits.other) at c.is-lower.ensures in
-    tested (subset-yes 64 a.set a.word fits.set.fits fits.word.fits (sym c.before.before.difference.ensures ∙ c.before.if1.false))
+    tested (subset_yes 64 a.set a.word fits.set.fits fits.word.fits (sym c.before.before.difference.ensures ∙ c.before.if1.false))
     (sym lower ∙ not-true c.is-lower.result e)
 
-pub is-dominated-spec : {M : Type 1} → statement M
-is-dominated-spec = tie.close (tie.spec (λ c κs. search rules) returns (λ c κs. search rules) returns-2)
+pub is_dominated_spec : {M : Type 1} → statement M
+is_dominated_spec = tie.close (tie.spec (λ c κs. search rules) returns (λ c κs. search rules) returns-2)

@@ -4,7 +4,7 @@ use borrow.Author.Tests.{not-false}
 use mathlib.Core.Path.{refl, sym, ◌∙◌}
 use mathlib.Core.Logic.{inl, inr}
 use mir.ValLaws.{to_z-of_z}
-use Rattle.engine_sums.specs.SumLaws.{time-fits}
+use Rattle.engine_sums.specs.SumLaws.{time_fits}
 use Rattle.engine_dominance.proofs.representative.Statement.{statement}
 use Rattle.engine_dominance.proofs.representative.Tie as tie
 
@@ -24,16 +24,16 @@ returns-3 c =
     let start = set.before.before in
     let (_, place, hours) = start.requires in
     let is-done = sym known.before.has.ensures ∙ not-false _ known.if2.false in
-    let own = time-fits (hours.time start.args.job) in
-    let other = time-fits (hours.time start.args.former) in
+    let own = time_fits (hours.time start.args.job) in
+    let other = time_fits (hours.time start.args.former) in
     let dominated = simp (to_z-of_z, own, other) at (asked.is-dominated.ensures c.if3.true) in
     (place, λ _. inr (is-done, rw set.intersection.ensures at dominated))
 
 returns-4 : tie.Need-returns-4
 returns-4 c = (c.before.before.before.before.before.before.before.before.before.before.requires.0, λ other. absurd (other refl))
 
-pub representative-spec : {M : Type 1} → statement M
-representative-spec =
+pub representative_spec : {M : Type 1} → statement M
+representative_spec =
     tie.close
     (tie.spec
     (λ c. search rules)

@@ -8,8 +8,8 @@ joined-requires c κs =
     let known = rw c.before.fact.given.1 at c.before.before.before.requires in
     (known.0, known.1)
 
-pub concerned-spec : {M : Type 1} → statement M
-concerned-spec =
+pub concerned_spec : {M : Type 1} → statement M
+concerned_spec =
     tie.close
     (tie.spec
     (λ c. search rules)

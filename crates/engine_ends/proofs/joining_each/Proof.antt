@@ -10,8 +10,8 @@ invariant-loop job set beyond opposite found₀ left₀ found left = Unit
 abbrev decreases-loop : tie.decreases-loop
 decreases-loop job set beyond opposite found₀ left₀ found left = left
 
-pub joining-each-spec : {M : Type 1} → statement M
-joining-each-spec =
+pub joining_each_spec : {M : Type 1} → statement M
+joining_each_spec =
     tie.close
     (tie.spec
     invariant-loop

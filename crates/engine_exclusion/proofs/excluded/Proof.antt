@@ -1,7 +1,7 @@
 -- `engine_exclusion::excluded` meets its contract: one job after the other. Assumes nothing.
 use borrow.Author.Rules.{rules}
 use Rattle.paper_board.specs.BoardTests.Sets.{Subset}
-use Rattle.engine_exclusion.specs.Gone.{Crossed, crossed-none, crossed-more}
+use Rattle.engine_exclusion.specs.Gone.{Crossed, crossed_none, crossed_more}
 use Rattle.engine_exclusion.proofs.excluded.Statement.{statement}
 use Rattle.engine_exclusion.proofs.excluded.Tie as tie
 
@@ -12,7 +12,7 @@ abbrev decreases-loop : tie.decreases-loop
 decreases-loop set before after found₀ left₀ found left = left
 
 loop-holds : tie.Need-loop-init invariant-loop decreases-loop
-loop-holds c = (λ x e. e, crossed-none _ _ _)
+loop-holds c = (λ x e. e, crossed_none _ _ _)
 
 loop-again : tie.Need-loop-preserved invariant-loop decreases-loop
 loop-again c =
@@ -20,14 +20,14 @@ loop-again c =
     let (left, found) = walk.before.before.loop.invariant in
     let taken = walk.take-lowest.ensures in (
       λ x e. left x (taken.inside x e),
-      crossed-more _ _ _ _ _ found (left _ taken.member) _ _ c.before.intersection.ensures c.union.ensures,
+      crossed_more _ _ _ _ _ found (left _ taken.member) _ _ c.before.intersection.ensures c.union.ensures,
     )
 
 returns : tie.Need-returns invariant-loop decreases-loop
 returns c = c.before.loop.invariant.1
 
-pub excluded-spec : {M : Type 1} → statement M
-excluded-spec =
+pub excluded_spec : {M : Type 1} → statement M
+excluded_spec =
     tie.close
     (tie.spec
     invariant-loop

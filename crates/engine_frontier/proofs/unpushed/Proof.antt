@@ -10,8 +10,8 @@ invariant-loop set pushing beyond found₀ left₀ found left = Unit
 abbrev decreases-loop : tie.decreases-loop
 decreases-loop set pushing beyond found₀ left₀ found left = left
 
-pub unpushed-spec : {M : Type 1} → statement M
-unpushed-spec =
+pub unpushed_spec : {M : Type 1} → statement M
+unpushed_spec =
     tie.close
     (tie.spec
     invariant-loop

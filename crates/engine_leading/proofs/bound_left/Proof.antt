@@ -2,9 +2,9 @@
 use borrow.Author.Rules.{rules}
 use mir.ValLaws.{to_z-of_z}
 use Rattle.paper_board.specs.Paper.Values.{side_of}
-use Rattle.engine_sums.specs.Sums.{boundOf}
-use Rattle.engine_sums.specs.SumLaws.{time-fits, time-back-moderate}
-use Rattle.engine_bound_beyond.specs.BoundBeyond.{last-alone, all-sums}
+use Rattle.engine_sums.specs.Sums.{bound_of}
+use Rattle.engine_sums.specs.SumLaws.{time_fits, time_back_moderate}
+use Rattle.engine_bound_beyond.specs.BoundBeyond.{last_alone, all_sums}
 use Rattle.engine_leading.proofs.bound_left.Statement.{statement}
 use Rattle.engine_leading.proofs.bound_left.Tie as tie
 
@@ -18,35 +18,35 @@ single-bound-requires c κs =
     let found = c.before.before.before.before in
     let start = found.before.before.before in
     let (_, _, hours, work, _) = start.requires in
-    (hours, work, found.last.ensures.0, time-back-moderate (start.requires.2.time start.args.job))
+    (hours, work, found.last.ensures.0, time_back_moderate (start.requires.2.time start.args.job))
 
 returns-2 : tie.Need-returns-2
 returns-2 c =
     let found = c.before.before.before.before.before in
     let start = found.before.before.before in
     let a = start.args in
-    let told = simp (to_z-of_z, time-fits (start.requires.2.time a.job)) at c.single-bound.ensures in
+    let told = simp (to_z-of_z, time_fits (start.requires.2.time a.job)) at c.single-bound.ensures in
     let side = side_of a.side in
     let apart = c.before.before.before in
     rw told
-    (last-alone side a.times.now a.lengths.now a.beyond.now a.job a.set found.last.result _ found.last.ensures.0 found.last.ensures.1 apart.Standing-apart.ensures c.before.before.if2.true)
+    (last_alone side a.times.now a.lengths.now a.beyond.now a.job a.set found.last.result _ found.last.ensures.0 found.last.ensures.1 apart.Standing-apart.ensures c.before.before.if2.true)
 
 ordered-bound-requires : tie.Need-ordered-bound-requires
 ordered-bound-requires c κs =
     let start = c.before.before.before.before.before.before.before.before in
     let (_, _, hours, work, _) = start.requires in
-    (hours, work, time-back-moderate (start.requires.2.time start.args.job))
+    (hours, work, time_back_moderate (start.requires.2.time start.args.job))
 
 returns-3 : tie.Need-returns-3
 returns-3 c =
     let start = c.before.before.before.before.before.before.before.before.before in
     let a = start.args in
-    let told = simp (to_z-of_z, time-fits (start.requires.2.time a.job)) at c.ordered-bound.ensures in
+    let told = simp (to_z-of_z, time_fits (start.requires.2.time a.job)) at c.ordered-bound.ensures in
     let side = side_of a.side in
-    all-sums side a.times.now a.lengths.now a.beyond.now a.job a.set (boundOf side c.ordered-bound.result) told
+    all_sums side a.times.now a.lengths.now a.beyond.now a.job a.set (bound_of side c.ordered-bound.result) told
 
-pub bound-left-spec : {M : Type 1} → statement M
-bound-left-spec =
+pub bound_left_spec : {M : Type 1} → statement M
+bound_left_spec =
     tie.close
     (tie.spec
     (λ c. search rules)

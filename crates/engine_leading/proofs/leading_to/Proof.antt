@@ -7,7 +7,7 @@ use mir.Val.{SFits}
 use mir.ValLaws.{to_z-of_z}
 use Rattle.paper_board.specs.Paper.Values.{side_of, turned}
 use Rattle.engine_sums.specs.Sums.{Pushes}
-use Rattle.engine_leading.specs.Leading.{unknown-leaves}
+use Rattle.engine_leading.specs.Leading.{unknown_leaves}
 use Rattle.engine_leading.proofs.leading_to.Statement.{statement}
 use Rattle.engine_leading.proofs.leading_to.Tie as tie
 
@@ -20,8 +20,8 @@ found : (c : tie.After-bound)
 found c = rw c.bound.given.1 at c.before.before.bound-left.ensures
 
 -- and fits an i32
-time-fits-32 : (c : tie.After-known-told) → SFits w32 c.before.bound.given.0.0
-time-fits-32 c = search rules
+time_fits_32 : (c : tie.After-known-told) → SFits w32 c.before.bound.given.0.0
+time_fits_32 c = search rules
 
 returns : tie.Need-returns
 returns c =
@@ -29,7 +29,7 @@ returns c =
     (λ _. sym c.if1.true ∙ word.intersection.ensures, word.before.before.requires.3)
 
 returns-2 : tie.Need-returns-2
-returns-2 c = (λ members. absurd (members c.unknown.ensures), unknown-leaves _ _ _ _ c.unknown.ensures)
+returns-2 c = (λ members. absurd (members c.unknown.ensures), unknown_leaves _ _ _ _ c.unknown.ensures)
 
 bound-left-requires : tie.Need-bound-left-requires
 bound-left-requires c κs =
@@ -38,15 +38,15 @@ bound-left-requires c κs =
     (place, c.if2.false, hours, work, word.intersection.ensures)
 
 returns-3 : tie.Need-returns-3
-returns-3 c = (λ members. absurd (members c.unknown2.ensures), unknown-leaves _ _ _ _ c.unknown2.ensures)
+returns-3 c = (λ members. absurd (members c.unknown2.ensures), unknown_leaves _ _ _ _ c.unknown2.ensures)
 
 returns-4 : tie.Need-returns-4
 returns-4 c =
     let word = c.before.before.before.before.before.before.before in
-    (λ _. word.intersection.ensures, λ _. simp (to_z-of_z, time-fits-32 c) (found c.before).0)
+    (λ _. word.intersection.ensures, λ _. simp (to_z-of_z, time_fits_32 c) (found c.before).0)
 
-pub leading-to-spec : {M : Type 1} → statement M
-leading-to-spec =
+pub leading_to_spec : {M : Type 1} → statement M
+leading_to_spec =
     tie.close
     (tie.spec
     (λ c. search rules)

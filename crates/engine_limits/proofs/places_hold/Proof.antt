@@ -10,7 +10,7 @@ use borrow.Author.Tests.{not-true, not-false}
 use borrow.Author.Count.{below_more}
 use borrow.Author.Rules.{rules}
 use Rattle.ground_arithmetic.specs.Bools.{refuted}
-use Rattle.paper_board.specs.Paper.Limits.{jobLimit}
+use Rattle.paper_board.specs.Paper.Limits.{job_limit}
 use Rattle.paper_board.specs.BoardTests.Decides.{Decides, passed, failed}
 use Rattle.engine_limits.specs.LimitsTested.{PlaceAt}
 use Rattle.engine_limits.proofs.places_hold.Statement.{statement}
@@ -18,10 +18,10 @@ use Rattle.engine_limits.proofs.places_hold.Tie as tie
 
 abbrev invariant-loop : tie.invariant-loop
 invariant-loop jobs marks lengths earliest latest after before k₀ k =
-    (k ≤ jobLimit) × ((j : ℕ) → j < k → PlaceAt jobs marks lengths earliest latest after before j)
+    (k ≤ job_limit) × ((j : ℕ) → j < k → PlaceAt jobs marks lengths earliest latest after before j)
 
 abbrev decreases-loop : tie.decreases-loop
-decreases-loop jobs marks lengths earliest latest after before k₀ k = jobLimit - k
+decreases-loop jobs marks lengths earliest latest after before k₀ k = job_limit - k
 
 loop-holds : tie.Need-loop-init invariant-loop decreases-loop
 loop-holds c = (search rules, λ j l. absurd (omega arith))
@@ -57,8 +57,8 @@ loop-again c =
 returns-2 : tie.Need-returns-2 invariant-loop decreases-loop
 returns-2 c = passed λ j l. c.before.loop.invariant.1 j (omega arith)
 
-pub places-hold-spec : {M : Type 1} → statement M
-places-hold-spec =
+pub places_hold_spec : {M : Type 1} → statement M
+places_hold_spec =
     tie.close
     (tie.spec
     invariant-loop

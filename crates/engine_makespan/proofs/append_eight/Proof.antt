@@ -37,8 +37,8 @@ loop-again c =
 returns : tie.Need-returns invariant-loop decreases-loop
 returns c = let inv = c.before.loop.invariant in (inv.ends, inv.onward)
 
-pub append-eight-spec : {M : Type 1} → statement M
-append-eight-spec =
+pub append_eight_spec : {M : Type 1} → statement M
+append_eight_spec =
     tie.close
     (tie.spec
     invariant-loop

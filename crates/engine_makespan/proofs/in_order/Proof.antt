@@ -3,7 +3,7 @@ use borrow.Author.Rules.{rules}
 use Prim.Native.Nat.{◌≤◌, ◌-◌}
 use native.Mathlib.Omega.{arith}
 use Rattle.paper_board.specs.Paper.Values.{side_of}
-use Rattle.engine_makespan.specs.Makespan.{EndInRange, Sequenced, none-in-range, none-sequenced, all-sequenced}
+use Rattle.engine_makespan.specs.Makespan.{EndInRange, Sequenced, none_in_range, none_sequenced, all_sequenced}
 use Rattle.engine_makespan.proofs.in_order.Statement.{statement}
 use Rattle.engine_makespan.proofs.in_order.Tie as tie
 
@@ -19,7 +19,7 @@ abbrev decreases-loop : tie.decreases-loop
 decreases-loop side times lengths set order sequence₀ n₀ sequence n = 8 - n
 
 loop-holds : tie.Need-loop-init invariant-loop decreases-loop
-loop-holds c = record { counted = omega arith; ends = none-in-range c.requires.1 _; sequenced = none-sequenced _ }
+loop-holds c = record { counted = omega arith; ends = none_in_range c.requires.1 _; sequenced = none_sequenced _ }
 
 append-eight-requires : tie.Need-append-eight-requires invariant-loop decreases-loop
 append-eight-requires c κs =
@@ -34,13 +34,13 @@ loop-again c =
     record { counted = omega (arith, begun.loop-test.true); ends = ends; sequenced = onward _ begun.before.loop.invariant.sequenced }
 
 returns : tie.Need-returns invariant-loop decreases-loop
-returns c = let inv = c.before.loop.invariant in (inv.ends, λ empty. all-sequenced inv.sequenced empty)
+returns c = let inv = c.before.loop.invariant in (inv.ends, λ empty. all_sequenced inv.sequenced empty)
 
 returns-2 : tie.Need-returns-2 invariant-loop decreases-loop
-returns-2 c = let inv = c.before.before.before.loop.invariant in (inv.ends, λ empty. all-sequenced inv.sequenced empty)
+returns-2 c = let inv = c.before.before.before.loop.invariant in (inv.ends, λ empty. all_sequenced inv.sequenced empty)
 
-pub in-order-spec : {M : Type 1} → statement M
-in-order-spec =
+pub in_order_spec : {M : Type 1} → statement M
+in_order_spec =
     tie.close
     (tie.spec
     invariant-loop

@@ -5,7 +5,7 @@ use mathlib.Core.Path.{◌∙◌}
 use mir.Syntax.{w32}
 use mir.Val.{SFits}
 use mir.ValLaws.{to_z-of_z}
-use Rattle.engine_makespan.specs.Makespan.{in-range-moderate}
+use Rattle.engine_makespan.specs.Makespan.{in_range_moderate}
 use Rattle.engine_ordered_bound.proofs.ordered_bound.Statement.{statement}
 use Rattle.engine_ordered_bound.proofs.ordered_bound.Tie as tie
 
@@ -24,7 +24,7 @@ above-requires : tie.Need-above-requires
 above-requires c κs =
     let ran = c.before.before.before.before.before.before.before in
     let (_, work, _) = ran.before.before.requires in
-    simp (to_z-of_z, end_fits ran) (in-range-moderate work ran.in_order.ensures.0)
+    simp (to_z-of_z, end_fits ran) (in_range_moderate work ran.in_order.ensures.0)
 
 returns : tie.Need-returns
 returns c =
@@ -37,8 +37,8 @@ returns c =
 returns-2 : tie.Need-returns-2
 returns-2 c = simp (to_z-of_z, c.before.before.before.before.before.ranges.floor) at c.energy-bound.ensures
 
-pub ordered-bound-spec : {M : Type 1} → statement M
-ordered-bound-spec =
+pub ordered_bound_spec : {M : Type 1} → statement M
+ordered_bound_spec =
     tie.close
     (tie.spec
     (λ c κs. search rules)

@@ -1,6 +1,6 @@
 -- `engine_pair_rules::at_pair` meets its contract: R2, R3 and R1, each by its own law. Assumes nothing.
 use mathlib.Core.Path.{sym, ◌∙◌}
-use Rattle.engine_pair_rules.specs.PairSearched.{says-exclude, says-order, says-join, says_nothing}
+use Rattle.engine_pair_rules.specs.PairSearched.{says_exclude, says_order, says_join, says_nothing}
 use borrow.Author.Rules.{rules}
 use Rattle.engine_pair_rules.proofs.at_pair.Statement.{statement}
 use Rattle.engine_pair_rules.proofs.at_pair.Tie as tie
@@ -8,18 +8,18 @@ use Rattle.engine_pair_rules.proofs.at_pair.Tie as tie
 returns : tie.Need-returns
 returns c =
     let a = c.before.before.args in
-    says-exclude a.i a.k a.valid a.after a.before a.onward a.late (sym c.before.excludes.ensures ∙ c.if1.true)
+    says_exclude a.i a.k a.valid a.after a.before a.onward a.late (sym c.before.excludes.ensures ∙ c.if1.true)
 
 returns-2 : tie.Need-returns-2
 returns-2 c =
     let a = c.before.before.before.before.args in
-    says-order a.i a.k a.valid a.after a.before a.onward a.late (sym c.before.orders.ensures ∙ c.if2.true)
+    says_order a.i a.k a.valid a.after a.before a.onward a.late (sym c.before.orders.ensures ∙ c.if2.true)
 
 returns-3 : tie.Need-returns-3
 returns-3 c =
     let a = c.before.before.before.before.before.before.before.args in
     let missing = c.before.before.unjoined in
-    says-join a.i a.k a.valid a.after a.before a.onward a.late missing.result missing.ensures c.lowest.result
+    says_join a.i a.k a.valid a.after a.before a.onward a.late missing.result missing.ensures c.lowest.result
     c.lowest.ensures.member
 
 returns-4 : tie.Need-returns-4
@@ -31,8 +31,8 @@ returns-4 c =
     (sym c.before.before.before.orders.ensures ∙ c.before.before.if2.false)
     c.if3.false
 
-pub at-pair-spec : {M : Type 1} → statement M
-at-pair-spec =
+pub at_pair_spec : {M : Type 1} → statement M
+at_pair_spec =
     tie.close
     (tie.spec
     (λ c κs. search rules)

@@ -12,5 +12,5 @@ returns c =
     let sum = simp (to_z-of_z, start.ranges.end, start.ranges.length) at c.sum.ensures in
     rw sum (simp (to_z-of_z, start.ranges.latest, sum_fits start.args.end start.args.length end length))
 
-pub is-late-spec : {M : Type 1} → statement M
-is-late-spec = tie.close (tie.spec (λ c κs. search rules) returns)
+pub is_late_spec : {M : Type 1} → statement M
+is_late_spec = tie.close (tie.spec (λ c κs. search rules) returns)

@@ -11,5 +11,5 @@ returns c = rw c.before.if1.true (ap not c.has.ensures)
 returns-2 : tie.Need-returns-2
 returns-2 c = rw c.if1.false
 
-pub orders-spec : {M : Type 1} → statement M
-orders-spec = tie.close (tie.spec (λ c κs. search rules) returns returns-2)
+pub orders_spec : {M : Type 1} → statement M
+orders_spec = tie.close (tie.spec (λ c κs. search rules) returns returns-2)

@@ -2,7 +2,7 @@
 use mathlib.Core.Path.{sym, ap, ◌∙◌}
 use mathlib.Core.Bool.{and-true, and-false}
 use Rattle.ground_sets.specs.Bit.{bit}
-use Rattle.ground_sets.specs.BitLaws.{bit-zero, bit-intersection}
+use Rattle.ground_sets.specs.BitLaws.{bit_zero, bit_intersection}
 use borrow.Author.Rules.{rules}
 use Rattle.engine_partners.proofs.excluded.Statement.{statement}
 use Rattle.engine_partners.proofs.excluded.Tie as tie
@@ -11,10 +11,10 @@ returns : tie.Need-returns
 returns c = λ k.
     let a = c.before.before.before.args in
     let valid = sym c.before.before.has.ensures ∙ c.before.if1.true in
-    rw (valid, and-true) (ap (λ w. bit w k) c.intersection.ensures ∙ bit-intersection a.after a.before k)
+    rw (valid, and-true) (ap (λ w. bit w k) c.intersection.ensures ∙ bit_intersection a.after a.before k)
 
 returns-2 : tie.Need-returns-2
-returns-2 c = λ k. rw (sym c.before.has.ensures ∙ c.if1.false, and-false) (bit-zero k)
+returns-2 c = λ k. rw (sym c.before.has.ensures ∙ c.if1.false, and-false) (bit_zero k)
 
-pub excluded-spec : {M : Type 1} → statement M
-excluded-spec = tie.close (tie.spec (λ c κs. search rules) (λ c κs. search rules) returns returns-2)
+pub excluded_spec : {M : Type 1} → statement M
+excluded_spec = tie.close (tie.spec (λ c κs. search rules) (λ c κs. search rules) returns returns-2)

@@ -4,7 +4,7 @@ use mathlib.Core.Path.{sym, ◌∙◌}
 use mir.Syntax.{w32}
 use mir.Val.{to_z, of_z}
 use mir.ValLaws.{to_z-of_z}
-use Rattle.ground_walks.specs.Walk.{lowest-taken, visited}
+use Rattle.ground_walks.specs.Walk.{lowest_taken, visited}
 use Rattle.ground_arithmetic.specs.Bools.{refuted}
 use Rattle.ground_arithmetic.specs.Linear.{whole}
 use Rattle.engine_partners.specs.Partners.{LateLeft, InTime}
@@ -39,13 +39,13 @@ loop-again c =
     let at = test.before.before.before in
     let a = at.before.args in
     let timely : InTime a.latest.now a.lengths.now (to_z w32 (of_z w32 a.end)) low.result = omega (whole, sym test.ends-late.ensures ∙ c.before.if1.false) in
-    visited at.loop.invariant (lowest-taken low.ensures c.take-lowest.ensures) timely
+    visited at.loop.invariant (lowest_taken low.ensures c.take-lowest.ensures) timely
 
 returns-2 : tie.Need-returns-2 invariant-loop decreases-loop
 returns-2 c = rw (to_z-of_z w32 _ c.before.before.ranges.end) at c.before.loop.invariant
 
-pub late-spec : {M : Type 1} → statement M
-late-spec =
+pub late_spec : {M : Type 1} → statement M
+late_spec =
     tie.close
     (tie.spec
     invariant-loop

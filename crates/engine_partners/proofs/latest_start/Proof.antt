@@ -7,11 +7,11 @@ use mir.Syntax.{w32}
 use mir.Val.{to_z}
 use mir.ValLaws.{to_z-of_z}
 use Rattle.ground_sets.specs.Bit.{bit}
-use Rattle.ground_sets.specs.BitLaws.{bit-zero}
+use Rattle.ground_sets.specs.BitLaws.{bit_zero}
 use Rattle.ground_arithmetic.specs.Bools.{refuted}
-use Rattle.paper_board.specs.BoardTests.Ranges.{time-moderate}
-use Rattle.engine_sums.specs.SumLaws.{time-fits, length-fits, lengthAt-moderate}
-use Rattle.engine_partners.specs.Partners.{InTime, in-time-lesser}
+use Rattle.paper_board.specs.BoardTests.Ranges.{time_moderate}
+use Rattle.engine_sums.specs.SumLaws.{time_fits, length_fits, length_at_moderate}
+use Rattle.engine_partners.specs.Partners.{InTime, in_time_lesser}
 use borrow.Author.Rules.{rules}
 use Rattle.engine_partners.proofs.latest_start.Statement.{statement}
 use Rattle.engine_partners.proofs.latest_start.Tie as tie
@@ -31,7 +31,7 @@ gap-requires c κs =
     let walk = c.before.before in
     let (ends, work) = walk.before.before.before.requires in
     let k = walk.take-lowest.result.member in
-    simp (to_z-of_z, time-fits (ends.time k), length-fits work k) (time-moderate (ends.time k), lengthAt-moderate work k)
+    simp (to_z-of_z, time_fits (ends.time k), length_fits work k) (time_moderate (ends.time k), length_at_moderate work k)
 
 loop-again : tie.Need-loop-preserved invariant-loop decreases-loop
 loop-again c =
@@ -41,15 +41,15 @@ loop-again c =
     let a = at.before.args in
     let (ends, work) = at.before.requires in
     let gap = c.before.gap in
-    let gap_is = to_z-of_z w32 _ (record { sfits = gap.type-inv }) ∙ simp (to_z-of_z, time-fits (ends.time k), length-fits work k) at gap.ensures in
+    let gap_is = to_z-of_z w32 _ (record { sfits = gap.type-inv }) ∙ simp (to_z-of_z, time_fits (ends.time k), length_fits work k) at gap.ensures in
     let least = to_z-of_z w32 _ (record { sfits = c.lesser.type-inv }) ∙ (rw gap_is at c.lesser.ensures) in
-    rw least (in-time-lesser a.latest.now a.lengths.now a.set (to_z w32 at.loop.least) walk.take-lowest.ensures at.loop.invariant)
+    rw least (in_time_lesser a.latest.now a.lengths.now a.set (to_z w32 at.loop.least) walk.take-lowest.ensures at.loop.invariant)
 
 returns : tie.Need-returns invariant-loop decreases-loop
-returns c = λ k e. c.before.loop.invariant k e (rw c.loop-test.false (bit-zero k))
+returns c = λ k e. c.before.loop.invariant k e (rw c.loop-test.false (bit_zero k))
 
-pub latest-start-spec : {M : Type 1} → statement M
-latest-start-spec =
+pub latest_start_spec : {M : Type 1} → statement M
+latest_start_spec =
     tie.close
     (tie.spec
     invariant-loop

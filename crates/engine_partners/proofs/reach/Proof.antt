@@ -1,7 +1,7 @@
 -- `engine_partners::reach` meets its contract. The loop's invariant is `Looked`; the measure is the word of what is left. Assumes
 -- nothing.
-use Rattle.ground_sets.specs.BitLaws.{bit-zero}
-use Rattle.engine_partners.specs.Partners.{Looked, none-looked, look, look-falls}
+use Rattle.ground_sets.specs.BitLaws.{bit_zero}
+use Rattle.engine_partners.specs.Partners.{Looked, none_looked, look, look_falls}
 use borrow.Author.Rules.{rules}
 use Rattle.engine_partners.proofs.reach.Statement.{statement}
 use Rattle.engine_partners.proofs.reach.Tie as tie
@@ -13,13 +13,13 @@ abbrev decreases-loop : tie.decreases-loop
 decreases-loop set after all₀ left₀ all left = left
 
 loop-holds : tie.Need-loop-init invariant-loop decreases-loop
-loop-holds c = none-looked c.args.after.now c.args.set c.ranges.set.fits
+loop-holds c = none_looked c.args.after.now c.args.set c.ranges.set.fits
 
 loop-less : tie.Need-loop-smaller invariant-loop decreases-loop
 loop-less c =
     let joined = c.before.union in
     let walk = c.before.before.before in
-    rw (c.difference.ensures, joined.ensures) (look-falls walk.before.before.loop.invariant walk.take-lowest.ensures (rw joined.ensures at joined.type-inv))
+    rw (c.difference.ensures, joined.ensures) (look_falls walk.before.before.loop.invariant walk.take-lowest.ensures (rw joined.ensures at joined.type-inv))
 
 loop-again : tie.Need-loop-preserved invariant-loop decreases-loop
 loop-again c =
@@ -28,10 +28,10 @@ loop-again c =
     rw (c.difference.ensures, joined.ensures) (look walk.before.before.loop.invariant walk.take-lowest.ensures (rw joined.ensures at joined.type-inv))
 
 returns : tie.Need-returns invariant-loop decreases-loop
-returns c = λ x e. c.before.loop.invariant.done x e (rw c.loop-test.false (bit-zero x))
+returns c = λ x e. c.before.loop.invariant.done x e (rw c.loop-test.false (bit_zero x))
 
-pub reach-spec : {M : Type 1} → statement M
-reach-spec =
+pub reach_spec : {M : Type 1} → statement M
+reach_spec =
     tie.close
     (tie.spec
     invariant-loop

@@ -2,12 +2,12 @@
 use mathlib.Core.Path.{◌∙◌}
 use mir.ValLaws.{to_z-of_z}
 use borrow.Author.Rules.{rules}
-use Rattle.engine_places.specs.Place.{zero-between}
+use Rattle.engine_places.specs.Place.{zero_between}
 use Rattle.engine_places.proofs.is_zero.Statement.{statement}
 use Rattle.engine_places.proofs.is_zero.Tie as tie
 
 returns : tie.Need-returns
-returns c = simp (to_z-of_z, c.before.ranges.z) at (c.between.ensures ∙ zero-between _)
+returns c = simp (to_z-of_z, c.before.ranges.z) at (c.between.ensures ∙ zero_between _)
 
-pub is-zero-spec : {M : Type 1} → statement M
-is-zero-spec = tie.close (tie.spec (λ c κs. search rules) returns)
+pub is_zero_spec : {M : Type 1} → statement M
+is_zero_spec = tie.close (tie.spec (λ c κs. search rules) returns)

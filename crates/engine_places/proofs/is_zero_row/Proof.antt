@@ -4,30 +4,30 @@ use mathlib.Core.Bool.{◌&&◌}
 use mathlib.Core.Logic.{⊎_elim}
 use mir.ValLaws.{to_z-of_z}
 use borrow.Author.Rules.{rules}
-use Rattle.ground_arithmetic.specs.Bools.{and-asked, and-unasked}
-use Rattle.paper_board.specs.BoardTests.WithinLimits.{isZero}
+use Rattle.ground_arithmetic.specs.Bools.{and_asked, and_unasked}
+use Rattle.paper_board.specs.BoardTests.WithinLimits.{is_zero}
 use Rattle.engine_places.proofs.is_zero_row.Statement.{statement}
 use Rattle.engine_places.proofs.is_zero_row.Tie as tie
 
 -- the first two tests
 joined : (c : tie.Joined1)
-    → c.if1.if2 ≡ (isZero c.before.before.args.length && isZero c.before.before.args.earliest)
+    → c.if1.if2 ≡ (is_zero c.before.before.args.length && is_zero c.before.before.args.earliest)
 joined c =
     let f = c.before.before.ranges in
     let first = simp (to_z-of_z, f.length) at c.before.is_zero.ensures in
     ⊎_elim
-    (λ w. w.2 ∙ and-asked first w.0.taken (simp (to_z-of_z, f.earliest) at w.1.ensures))
-    (λ w. w.1 ∙ and-unasked first w.0.left _)
+    (λ w. w.2 ∙ and_asked first w.0.taken (simp (to_z-of_z, f.earliest) at w.1.ensures))
+    (λ w. w.1 ∙ and_unasked first w.0.left _)
     c.if1.branch
 
 returns : tie.Need-returns
 returns c =
     let f = c.before.before.before.before.ranges in
-    and-asked (joined c.before.before) c.before.if2.true (simp (to_z-of_z, f.latest) at c.is-zero3.ensures)
+    and_asked (joined c.before.before) c.before.if2.true (simp (to_z-of_z, f.latest) at c.is-zero3.ensures)
 
 returns-2 : tie.Need-returns-2
-returns-2 c = and-unasked (joined c.before) c.if2.false _
+returns-2 c = and_unasked (joined c.before) c.if2.false _
 
-pub is-zero-row-spec : {M : Type 1} → statement M
-is-zero-row-spec =
+pub is_zero_row_spec : {M : Type 1} → statement M
+is_zero_row_spec =
     tie.close (tie.spec (λ c κs. search rules) (λ c κs. search rules) (λ c κs. search rules) returns returns-2)

@@ -14,6 +14,6 @@ returns-2 c =
     let start = c.before.before.before in
     rw c.before.enum-told2.given.1 (simp (to_z-of_z, start.ranges.time, start.ranges.fixed, start.ranges.length) at c.holds2.ensures)
 
-pub holds-spec : {M : Type 1} → statement M
-holds-spec =
+pub holds_spec : {M : Type 1} → statement M
+holds_spec =
     tie.close (tie.spec (λ c. search rules) (λ c κs. search rules) (λ c. search rules) (λ c κs. search rules) returns returns-2)

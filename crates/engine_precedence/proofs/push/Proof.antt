@@ -2,8 +2,8 @@
 use borrow.Author.Rules.{rules}
 use Rattle.paper_board.specs.Paper.Values.{side_of}
 use Rattle.engine_sums.specs.Sums.{Times}
-use Rattle.engine_leading.specs.Leading.{Leaves, unknown-leaves}
-use Rattle.engine_precedence.specs.Precedence.{Raises, Shuts, PrecedenceRead, raises-none, shuts-none, pushed-on}
+use Rattle.engine_leading.specs.Leading.{Leaves, unknown_leaves}
+use Rattle.engine_precedence.specs.Precedence.{Raises, Shuts, PrecedenceRead, raises_none, shuts_none, pushed_on}
 use Rattle.engine_precedence.proofs.push.Statement.{statement}
 use Rattle.engine_precedence.proofs.push.Tie as tie
 
@@ -28,9 +28,9 @@ loop-holds : tie.Need-loop-init invariant-loop decreases-loop
 loop-holds c =
     record {
       hours = (start_of c).requires.0;
-      leaves = unknown-leaves _ _ _ _ c.unknown.ensures;
-      raised = raises-none _ _ _ _ _ _;
-      shut = rw c.before.unmoved.ensures (shuts-none _ _ _ _ _ _);
+      leaves = unknown_leaves _ _ _ _ c.unknown.ensures;
+      raised = raises_none _ _ _ _ _ _;
+      shut = rw c.before.unmoved.ensures (shuts_none _ _ _ _ _ _);
     }
 
 leading-to-requires : tie.Need-leading-to-requires invariant-loop decreases-loop
@@ -58,7 +58,7 @@ loop-again c =
     let ((hours, same), (raises, shuts)) = run.push-job.ensures in
     let (is, leaves) = led.leading-to.ensures in
     let (raised, shut) =
-    pushed-on (side_of a.side) _ _ _ _ _ _ _ _ _ _ inv.raised inv.shut (raises _ is, shuts _ is) both.both.ensures in
+    pushed_on (side_of a.side) _ _ _ _ _ _ _ _ _ _ inv.raised inv.shut (raises _ is, shuts _ is) both.both.ensures in
     record {
       hours = hours;
       leaves = lasting.lasting.ensures (side_of a.side) _ _ _ leaves same;
@@ -80,7 +80,7 @@ returns-2 c =
     let inv = at.loop.invariant in
     let ((hours, _), (raises, shuts)) = run.push-job.ensures in
     let (is, _) = led.leading-to.ensures in
-    (hours, pushed-on (side_of (start_of at.before).args.side) _ _ _ _ _ _ _ _ _ _ inv.raised inv.shut (raises _ is, shuts _ is) both.both.ensures)
+    (hours, pushed_on (side_of (start_of at.before).args.side) _ _ _ _ _ _ _ _ _ _ inv.raised inv.shut (raises _ is, shuts _ is) both.both.ensures)
 
 pub push_spec : {M : Type 1} → statement M
 push_spec =

@@ -11,18 +11,18 @@ use mir.Syntax.{w32}
 use mir.Val.{SFits}
 use mir.ValLaws.{to_z-of_z}
 use Rattle.paper_board.specs.Paper.Values.{side_of, turned}
-use Rattle.paper_board.specs.BoardTests.Ranges.{time-moderate}
+use Rattle.paper_board.specs.BoardTests.Ranges.{time_moderate}
 use Rattle.engine_sums.specs.Sums.{Pushes}
-use Rattle.engine_sums.specs.SumLaws.{time-fits, length-fits, lengthAt-moderate}
+use Rattle.engine_sums.specs.SumLaws.{time_fits, length_fits, length_at_moderate}
 use Rattle.engine_bound_beyond.specs.BoundBeyond.{pushing}
 use Rattle.engine_precedence.specs.ModerateTime.{found_below}
 use Rattle.engine_leading.specs.Leading.{LeadsTo}
-use Rattle.engine_precedence.specs.Precedence.{raises-none, raises-then, shuts-none, shuts-job, times-set, room-time, pushed-moderate}
+use Rattle.engine_precedence.specs.Precedence.{raises_none, raises_then, shuts_none, shuts_job, times_set, room_time, pushed_moderate}
 use Rattle.engine_precedence.proofs.push_job.Statement.{statement}
 use Rattle.engine_precedence.proofs.push_job.Tie as tie
 
-time-fits-32 : (c : tie.After-struct-told) → SFits w32 c.before.args.leading.time
-time-fits-32 c = search rules
+time_fits_32 : (c : tie.After-struct-told) → SFits w32 c.before.args.leading.time
+time_fits_32 c = search rules
 
 -- places that the answers look back to: where the time is read, and the start
 abbrev told : tie.Else2 → tie.After-struct-told
@@ -37,30 +37,30 @@ above : (c : tie.Else2)
     let side = side_of a.side in
     Pushes side a.times.now a.lengths.now a.leading.set a.job (some (turned side a.leading.time))
 above c =
-    let own = time-fits ((start c).requires.1.time (start c).args.job) in
-    let lower = sym (simp (to_z-of_z, own, time-fits-32 (told c)) at c.before.is-lower.ensures) ∙ not-false _ c.if2.false in
+    let own = time_fits ((start c).requires.1.time (start c).args.job) in
+    let lower = sym (simp (to_z-of_z, own, time_fits_32 (told c)) at c.before.is-lower.ensures) ∙ not-false _ c.if2.false in
     ((start c).requires.4 c.before.before.before.if1.false, found_below lower)
 
 -- and pushes it, where the set is that of the valid jobs beyond it
-beyond-it : (c : tie.Else2)
+beyond_it : (c : tie.Else2)
     → let a = c.before.before.before.before.before.before.args in
     let side = side_of a.side in
     (beyond : List ℕ) → LeadsTo a.leading beyond a.valid a.job
     → Pushes side a.times.now a.lengths.now (pushing beyond a.valid a.job) a.job (some (turned side a.leading.time))
-beyond-it c beyond e = rw (e c.before.before.before.if1.false) at (above c)
+beyond_it c beyond e = rw (e c.before.before.before.if1.false) at (above c)
 
 returns : tie.Need-returns
 returns c =
     let at = c.before.before.before.before in
-    ((at.requires.1, λ x different. refl), (λ beyond e. raises-none _ _ _ _ _ _, λ beyond e. rw c.unmoved.ensures (shuts-none _ _ _ _ _ _)))
+    ((at.requires.1, λ x different. refl), (λ beyond e. raises_none _ _ _ _ _ _, λ beyond e. rw c.unmoved.ensures (shuts_none _ _ _ _ _ _)))
 
 holds-requires : tie.Need-holds-requires
 holds-requires c κs =
     let else = c.before.before in
     let (_, hours, other, work, _) = (start else).requires in
     let k = (start else).args.job in
-    simp (to_z-of_z, time-fits-32 (told else), time-fits (other.time k), length-fits work k)
-    (pushed-moderate _ _ _ _ hours work (above else), time-moderate (other.time k), lengthAt-moderate work k)
+    simp (to_z-of_z, time_fits_32 (told else), time_fits (other.time k), length_fits work k)
+    (pushed_moderate _ _ _ _ hours work (above else), time_moderate (other.time k), length_at_moderate work k)
 
 returns-2 : tie.Need-returns-2
 returns-2 c =
@@ -68,15 +68,15 @@ returns-2 c =
     let (_, hours, other, work, _) = (start else).requires in
     let a = (start else).args in
     let k = a.job in
-    let time = time-fits-32 (told else) in
-    let fits = rw (simp (to_z-of_z, time, time-fits (other.time k), length-fits work k) at c.before.before.before.holds.ensures) at c.before.before.if3.true in
+    let time = time_fits_32 (told else) in
+    let fits = rw (simp (to_z-of_z, time, time_fits (other.time k), length_fits work k) at c.before.before.before.holds.ensures) at c.before.before.if3.true in
     let side = side_of a.side in
-    let is = room-time side _ _ _ _ (hours.time k) (other.time k) (work.low k) (above else).1 fits in
+    let is = room_time side _ _ _ _ (hours.time k) (other.time k) (work.low k) (above else).1 fits in
     simp (to_z-of_z, time) (
-      (times-set _ hours k _ is, λ x. get_or-set_other a.times.now k x a.leading.time (pos 0)),
+      (times_set _ hours k _ is, λ x. get_or-set_other a.times.now k x a.leading.time (pos 0)),
       (
-        λ beyond e. raises-then side _ _ beyond _ _ _ (raises-none side _ _ _ _ _) k _ (beyond-it else beyond e) fits,
-        λ beyond e. rw c.moved.ensures (shuts-none side _ _ _ _ _),
+        λ beyond e. raises_then side _ _ beyond _ _ _ (raises_none side _ _ _ _ _) k _ (beyond_it else beyond e) fits,
+        λ beyond e. rw c.moved.ensures (shuts_none side _ _ _ _ _),
       ),
     )
 
@@ -85,16 +85,16 @@ returns-3 c =
     let else = c.before.before.before.before.before in
     let (_, hours, other, work, _) = (start else).requires in
     let k = (start else).args.job in
-    let time = time-fits-32 (told else) in
+    let time = time_fits_32 (told else) in
     let side = side_of (start else).args.side in
-    let full = rw (simp (to_z-of_z, time, time-fits (other.time k), length-fits work k) at c.before.before.holds.ensures) at c.before.if3.false in
+    let full = rw (simp (to_z-of_z, time, time_fits (other.time k), length_fits work k) at c.before.before.holds.ensures) at c.before.if3.false in
     let it = c.with.ensures in (
       (hours, λ x different. refl),
-      (λ beyond e. raises-none side _ _ _ _ _, λ beyond e. shuts-job side _ _ _ _ _ k _ (beyond-it else beyond e) full _ it),
+      (λ beyond e. raises_none side _ _ _ _ _, λ beyond e. shuts_job side _ _ _ _ _ k _ (beyond_it else beyond e) full _ it),
     )
 
-pub push-job-spec : {M : Type 1} → statement M
-push-job-spec =
+pub push_job_spec : {M : Type 1} → statement M
+push_job_spec =
     tie.close
     (tie.spec
     (λ c. search rules)

@@ -3,7 +3,7 @@ use borrow.Author.Rules.{rules}
 use Prim.Native.Nat.{◌≤◌, ◌-◌}
 use native.Mathlib.Omega.{arith}
 use Rattle.engine_sums.specs.Sums.{Times}
-use Rattle.engine_propagation.specs.Turns.{Run, run_none, run_on, run-onward, run-shut}
+use Rattle.engine_propagation.specs.Turns.{Run, run_none, run_on, run_onward, run_shut}
 use Rattle.engine_propagation.proofs.propagate.Statement.{statement}
 use Rattle.engine_propagation.proofs.propagate.Tie as tie
 
@@ -53,15 +53,15 @@ loop-again c =
 returns : tie.Need-returns invariant-loop decreases-loop
 returns c =
     let run = c.before.loop.invariant.run in
-    (run-onward _ _ _ _ _ _ _ _ _ _ _ _ _ run, run-shut _ _ _ _ _ _ _ _ _ _ _ _ _ run)
+    (run_onward _ _ _ _ _ _ _ _ _ _ _ _ _ run, run_shut _ _ _ _ _ _ _ _ _ _ _ _ _ run)
 
 returns-2 : tie.Need-returns-2 invariant-loop decreases-loop
 returns-2 c =
     let run = c.before.before.before.loop.invariant.run in
-    (run-onward _ _ _ _ _ _ _ _ _ _ _ _ _ run, run-shut _ _ _ _ _ _ _ _ _ _ _ _ _ run)
+    (run_onward _ _ _ _ _ _ _ _ _ _ _ _ _ run, run_shut _ _ _ _ _ _ _ _ _ _ _ _ _ run)
 
-pub propagate-spec : {M : Type 1} → statement M
-propagate-spec =
+pub propagate_spec : {M : Type 1} → statement M
+propagate_spec =
     tie.close
     (tie.spec
     invariant-loop

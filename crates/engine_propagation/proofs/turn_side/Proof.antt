@@ -3,8 +3,8 @@ use borrow.Author.Rules.{rules}
 use Rattle.engine_propagation.proofs.turn_side.Statement.{statement}
 use Rattle.engine_propagation.proofs.turn_side.Tie as tie
 
-pub turn-side-spec : {M : Type 1} → statement M
-turn-side-spec =
+pub turn_side_spec : {M : Type 1} → statement M
+turn_side_spec =
     tie.close
     (tie.spec
     (λ c κs. search rules)

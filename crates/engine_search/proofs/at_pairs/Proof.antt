@@ -5,10 +5,10 @@ use mir.Val.{to_z, of_z}
 use mir.ValLaws.{to_z-of_z}
 use Rattle.paper_board.specs.Paper.View.{view}
 use Rattle.engine_findings.specs.Searched.{PairObeys}
-use Rattle.engine_findings.specs.InferredOf.{inferredOf}
+use Rattle.engine_findings.specs.InferredOf.{inferred_of}
 use Rattle.engine_partners.specs.RowRead.{pair_read}
 use Rattle.engine_partners.specs.PairSettled.{PairsSettled}
-use Rattle.engine_search.specs.PairsWalk.{AppliesAt, EarliestEnd, row_read, searched-with}
+use Rattle.engine_search.specs.PairsWalk.{AppliesAt, EarliestEnd, row_read, searched_with}
 use Rattle.engine_search.proofs.at_pairs.Statement.{statement}
 use Rattle.engine_search.proofs.at_pairs.Tie as tie
 
@@ -66,11 +66,11 @@ returns-2 c b h =
     let i = pair.0 in
     let k = pair.1.0 in
     let (unmet, live, two) = (known end.before).applies b h in
-    searched-with (view b) (PairObeys (view b) i k) (PairsSettled (view b)) (λ obeys. absurd (unmet obeys)) (inferredOf c.at_pair.result)
+    searched_with (view b) (PairObeys (view b) i k) (PairsSettled (view b)) (λ obeys. absurd (unmet obeys)) (inferred_of c.at_pair.result)
     (c.at_pair.ensures (view b) (pair_read (row_read h i live _ (end_is end).is) k two _ late.ends-late.ensures))
 
-pub at-pairs-spec : {M : Type 1} → statement M
-at-pairs-spec =
+pub at_pairs_spec : {M : Type 1} → statement M
+at_pairs_spec =
     tie.close
     (tie.spec
     (λ c κs. search rules)

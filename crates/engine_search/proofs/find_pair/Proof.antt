@@ -15,7 +15,7 @@ use Rattle.paper_board.specs.BoardTests.Decides.{Decides}
 use Rattle.engine_findings.specs.Searched.{PairObeys}
 use Rattle.engine_search.specs.declared.Pair.TheVariants.{None}
 use Rattle.engine_partners.specs.RowRead.{RowRead, pair_read}
-use Rattle.engine_partners.specs.PairSettled.{PairsLeft, obeys-settled}
+use Rattle.engine_partners.specs.PairSettled.{PairsLeft, obeys_settled}
 use Rattle.engine_search.specs.PairsWalk.{BoardRead, EarliestEnd, RowsLeft, all_left, row_read}
 use borrow.Author.Rules.{rules}
 use Rattle.engine_search.proofs.find_pair.Statement.{statement}
@@ -121,7 +121,7 @@ loop-again c =
     let inv = next.before.before.loop.invariant in (
       inv.0,
       λ b h. visited (inv.1 b h) next.take-lowest2.ensures
-          (obeys-settled (view b) _ _ ((tested c.before b h).yes (ap not c.if1.false))),
+          (obeys_settled (view b) _ _ ((tested c.before b h).yes (ap not c.if1.false))),
     )
 
 returns : tie.Need-returns invariant-loop decreases-loop invariant-pairs decreases-pairs
@@ -139,8 +139,8 @@ returns-2 c =
       applies = λ b h. (λ obeys. refuted (ap not c.if1.true) ((tested c.before b h).show obeys), (row_reads end b h).here, apart low b h);
     }
 
-pub find-pair-spec : {M : Type 1} → statement M
-find-pair-spec =
+pub find_pair_spec : {M : Type 1} → statement M
+find_pair_spec =
     tie.close
     (tie.spec
     invariant-loop

@@ -6,7 +6,7 @@ use native.Mathlib.Omega.{arith}
 use borrow.Author.Rules.{rules}
 use Rattle.paper_board.specs.declared.Board.{Board}
 use Rattle.paper_rules.specs.Update.ArraysWithin.{filled}
-use Rattle.paper_rules.specs.Update.Strike.{strikeBelow, none_below, one_below}
+use Rattle.paper_rules.specs.Update.Strike.{strike_below, none_below, one_below}
 use Rattle.engine_strikes.proofs.strike.Statement.{statement}
 use Rattle.engine_strikes.proofs.strike.Tie as tie
 
@@ -14,7 +14,7 @@ abbrev invariant-loop : tie.invariant-loop
 invariant-loop jobs lengths₀ earliest₀ latest₀ marks₀ after₀ before₀ set k₀ lengths earliest latest marks after before k =
     (k ≤ jobs)
     × ((b : Board) → filled b lengths earliest latest marks after before
-    ≡ strikeBelow (filled b lengths₀ earliest₀ latest₀ marks₀ after₀ before₀) set k)
+    ≡ strike_below (filled b lengths₀ earliest₀ latest₀ marks₀ after₀ before₀) set k)
 
 abbrev decreases-loop : tie.decreases-loop
 decreases-loop jobs lengths₀ earliest₀ latest₀ marks₀ after₀ before₀ set k₀ lengths earliest latest marks after before k = jobs - k
@@ -31,9 +31,9 @@ returns : tie.Need-returns invariant-loop decreases-loop
 returns c b e =
     let loop = c.before in
     let all : loop.loop.k ≡ b.jobs = omega (arith, e, loop.loop.invariant.0) in
-    loop.loop.invariant.1 b ∙ ap (strikeBelow _ _) all
+    loop.loop.invariant.1 b ∙ ap (strike_below _ _) all
 
-pub strike-spec : {M : Type 1} → statement M
-strike-spec =
+pub strike_spec : {M : Type 1} → statement M
+strike_spec =
     tie.close
     (tie.spec invariant-loop decreases-loop loop-holds (λ c κs. search rules) (λ c. search rules) (λ c. search rules) loop-again returns)

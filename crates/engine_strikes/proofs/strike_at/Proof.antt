@@ -2,14 +2,14 @@
 use mathlib.Core.Path.{sym, ◌∙◌}
 use borrow.Author.Rules.{rules}
 use Rattle.paper_rules.specs.Update.ArraysWithin.{filled}
-use Rattle.paper_rules.specs.Update.Strike.{at-member, at_other}
+use Rattle.paper_rules.specs.Update.Strike.{at_member, at_other}
 use Rattle.engine_strikes.proofs.strike_at.Statement.{statement}
 use Rattle.engine_strikes.proofs.strike_at.Tie as tie
 
 returns : tie.Need-returns
 returns c b =
     let a = c.before.before.args in
-    at-member (filled b a.lengths.now a.earliest.now a.latest.now a.marks.now a.after.now a.before.now) _ _
+    at_member (filled b a.lengths.now a.earliest.now a.latest.now a.marks.now a.after.now a.before.now) _ _
     (sym c.before.has.ensures ∙ c.if1.true)
 
 returns-2 : tie.Need-returns-2
@@ -19,8 +19,8 @@ returns-2 c b =
     at_other (filled b a.lengths.now a.earliest.now a.latest.now a.marks.now a.after.now a.before.now) _ _ _ _
     (sym test.before.has.ensures ∙ test.if1.false) c.before.before.difference.ensures c.difference2.ensures
 
-pub strike-at-spec : {M : Type 1} → statement M
-strike-at-spec =
+pub strike_at_spec : {M : Type 1} → statement M
+strike_at_spec =
     tie.close
     (tie.spec
     (λ c κs. search rules)

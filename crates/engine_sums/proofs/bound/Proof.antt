@@ -3,7 +3,7 @@ use mathlib.Core.Path.{◌∙◌}
 use native.Mathlib.Omega.{arith}
 use mir.Syntax.{w32}
 use mir.ValLaws.{to_z-of_z}
-use Rattle.engine_sums.specs.SumLaws.{time-fits, time-back-moderate}
+use Rattle.engine_sums.specs.SumLaws.{time_fits, time_back_moderate}
 use Rattle.engine_sums.proofs.bound.Statement.{statement}
 use Rattle.engine_sums.proofs.bound.Tie as tie
 
@@ -14,12 +14,12 @@ element-copy-out-turned : tie.Need-element-copy-out-turned
 element-copy-out-turned c = c.requires.1
 
 turned-requires : tie.Need-turned-requires
-turned-requires c κs = time-back-moderate (c.before.requires.0.time c.before.args.k)
+turned-requires c κs = time_back_moderate (c.before.requires.0.time c.before.args.k)
 
 returns : tie.Need-returns
 returns c =
     let t = c.before.before.requires.0.time c.before.before.args.k in
-    to_z-of_z w32 _ (record { sfits = c.turned.type-inv }) ∙ (simp (to_z-of_z, time-fits t) at c.turned.ensures)
+    to_z-of_z w32 _ (record { sfits = c.turned.type-inv }) ∙ (simp (to_z-of_z, time_fits t) at c.turned.ensures)
 
-pub bound-spec : {M : Type 1} → statement M
-bound-spec = tie.close (tie.spec mul-turned element-copy-out-turned turned-requires returns)
+pub bound_spec : {M : Type 1} → statement M
+bound_spec = tie.close (tie.spec mul-turned element-copy-out-turned turned-requires returns)

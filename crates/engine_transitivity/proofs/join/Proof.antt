@@ -1,6 +1,6 @@
 -- `engine_transitivity::join` meets its contract: R1 infers each arc that it sets. Assumes nothing.
 use borrow.Author.Rules.{rules}
-use Rattle.paper_board.specs.BoardTests.Sets.{Subset, subset-intersection}
+use Rattle.paper_board.specs.BoardTests.Sets.{Subset, subset_intersection}
 use Rattle.engine_arcs.specs.Arcs.{Sound, sound_none}
 use Rattle.engine_transitivity.specs.Transitivity.{missing, Forth, joined}
 use Rattle.engine_transitivity.proofs.join.Statement.{statement}
@@ -18,7 +18,7 @@ loop-holds : tie.Need-loop-init invariant-loop decreases-loop
 loop-holds c = (
   λ x e.
       let all = c.before in
-      rw (all.difference.ensures, all.before.before.without.ensures) at ((subset-intersection _ _).0 x (rw c.intersection.ensures at e)),
+      rw (all.difference.ensures, all.before.before.without.ensures) at ((subset_intersection _ _).0 x (rw c.intersection.ensures at e)),
   sound_none (Forth _ _) _ _,
 )
 
@@ -36,8 +36,8 @@ loop-again c =
 returns : tie.Need-returns invariant-loop decreases-loop
 returns c = c.before.loop.invariant.1
 
-pub join-spec : {M : Type 1} → statement M
-join-spec =
+pub join_spec : {M : Type 1} → statement M
+join_spec =
     tie.close
     (tie.spec
     invariant-loop

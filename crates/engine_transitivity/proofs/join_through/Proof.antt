@@ -2,7 +2,7 @@
 use borrow.Author.Rules.{rules}
 use Rattle.paper_board.specs.BoardTests.Sets.{Subset}
 use Rattle.engine_arcs.specs.Arcs.{Sound, sound_none}
-use Rattle.engine_transitivity.specs.Transitivity.{Through, row-joined}
+use Rattle.engine_transitivity.specs.Transitivity.{Through, row_joined}
 use Rattle.engine_transitivity.proofs.join_through.Statement.{statement}
 use Rattle.engine_transitivity.proofs.join_through.Tie as tie
 
@@ -23,13 +23,13 @@ loop-again c =
     let (left, run) = at.loop.invariant in
     let taken = walk.take-lowest.ensures in
     let member = at.before.before.requires.1 _ (left _ taken.member) in
-    (λ x e. left x (taken.inside x e), row-joined _ _ _ _ _ run _ member _ _ joined.join.ensures)
+    (λ x e. left x (taken.inside x e), row_joined _ _ _ _ _ run _ member _ _ joined.join.ensures)
 
 returns : tie.Need-returns invariant-loop decreases-loop
 returns c = c.before.loop.invariant.1
 
-pub join-through-spec : {M : Type 1} → statement M
-join-through-spec =
+pub join_through_spec : {M : Type 1} → statement M
+join_through_spec =
     tie.close
     (tie.spec
     invariant-loop

@@ -32,8 +32,8 @@ loop-again c =
 returns : tie.Need-returns invariant-loop decreases-loop
 returns c j l = c.before.loop.invariant.2 j (omega arith)
 
-pub exchange-spec : {M : Type 1} → statement M
-exchange-spec =
+pub exchange_spec : {M : Type 1} → statement M
+exchange_spec =
     tie.close
     (tie.spec
     invariant-loop

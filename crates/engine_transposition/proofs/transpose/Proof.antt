@@ -33,8 +33,8 @@ returns c =
     fourth.exchange4.result fifth.exchange5.result c.exchange6.result first.exchange.ensures second.exchange2.ensures
     third.exchange3.ensures fourth.exchange4.ensures fifth.exchange5.ensures c.exchange6.ensures
 
-pub transpose-spec : {M : Type 1} → statement M
-transpose-spec =
+pub transpose_spec : {M : Type 1} → statement M
+transpose_spec =
     tie.close
     (tie.spec
     exchange-requires

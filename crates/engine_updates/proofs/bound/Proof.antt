@@ -3,7 +3,7 @@ use mathlib.Core.Path.{sym, subst, ap, ◌∙◌}
 use native.Mathlib.Omega.{arith}
 use mir.ValLaws.{to_z-of_z}
 use Rattle.paper_board.specs.Paper.Limits.{Within}
-use Rattle.paper_board.specs.BoardTests.Ranges.{ranges, time-moderate, length-moderate}
+use Rattle.paper_board.specs.BoardTests.Ranges.{ranges, time_moderate, length_moderate}
 use Rattle.paper_rules.specs.Update.ArraysWithin.{filled}
 use Rattle.paper_rules.specs.Update.Updates.{exclude}
 use Rattle.engine_updates.proofs.bound.Statement.{statement}
@@ -16,8 +16,8 @@ tighten-requires c κs =
     let row = ranges _ held.within start.args.job in (
       omega (arith, job, held.within.limits.jobs, held.jobs),
       simp (to_z-of_z, start.ranges.time) moderate,
-      time-moderate row.earliest,
-      length-moderate row,
+      time_moderate row.earliest,
+      length_moderate row,
     )
 
 returns : tie.Need-returns
@@ -43,5 +43,5 @@ returns-2 c b e within =
     ∙ ap (λ x. exclude x a.job) (sym same)
     ∙ c.exclude.ensures b e (subst Within (sym same) within)
 
-pub bound-spec : {M : Type 1} → statement M
-bound-spec = tie.close (tie.spec tighten-requires returns exclude-requires returns-2)
+pub bound_spec : {M : Type 1} → statement M
+bound_spec = tie.close (tie.spec tighten-requires returns exclude-requires returns-2)

@@ -6,7 +6,7 @@ use mir.Syntax.{w32}
 use mir.Val.{SFits}
 use mir.ValLaws.{to_z-of_z}
 use Rattle.paper_rules.specs.Update.ArraysWithin.{filled}
-use Rattle.paper_rules.specs.Update.Shown.{arc-shown, bound-shown, valid-shown, invalid-shown}
+use Rattle.paper_rules.specs.Update.Shown.{arc_shown, bound_shown, valid_shown, invalid_shown}
 use Rattle.engine_updates.proofs.is_shown.Statement.{statement}
 use Rattle.engine_updates.proofs.is_shown.Tie as tie
 
@@ -28,29 +28,29 @@ returns : tie.Need-returns
 returns c b within e =
     let a = c.before.before.before.before.args in
     let board = filled b b.lengths a.earliest.now a.latest.now a.marks.now a.after.now b.before in
-    rw c.before.before.fact.given.1 (arc-shown board within _ _ (sym (c.is-joined.ensures board) ∙ e))
+    rw c.before.before.fact.given.1 (arc_shown board within _ _ (sym (c.is-joined.ensures board) ∙ e))
 
 returns-2 : tie.Need-returns-2
 returns-2 c b within e =
     let a = c.before.before.before.before.args in
     let board = filled b b.lengths a.earliest.now a.latest.now a.marks.now a.after.now b.before in
     let fits : SFits w32 c.before.before.fact2.given.0.1.1.0 = search rules in
-    rw c.before.before.fact2.given.1 (bound-shown board _ _ _ (sym (simp (to_z-of_z, fits) at (c.is-bounded.ensures board)) ∙ e))
+    rw c.before.before.fact2.given.1 (bound_shown board _ _ _ (sym (simp (to_z-of_z, fits) at (c.is-bounded.ensures board)) ∙ e))
 
 returns-3 : tie.Need-returns-3
 returns-3 c b within e =
     let a = c.before.before.before.before.args in
     let board = filled b b.lengths a.earliest.now a.latest.now a.marks.now a.after.now b.before in
-    rw c.before.before.fact3.given.1 (valid-shown board _ (eqb-true _ _ e))
+    rw c.before.before.fact3.given.1 (valid_shown board _ (eqb-true _ _ e))
 
 returns-4 : tie.Need-returns-4
 returns-4 c b within e =
     let a = c.before.before.before.before.args in
     let board = filled b b.lengths a.earliest.now a.latest.now a.marks.now a.after.now b.before in
-    rw c.before.before.fact4.given.1 (invalid-shown board _ (eqb-true _ _ e))
+    rw c.before.before.fact4.given.1 (invalid_shown board _ (eqb-true _ _ e))
 
-pub is-shown-spec : {M : Type 1} → statement M
-is-shown-spec =
+pub is_shown_spec : {M : Type 1} → statement M
+is_shown_spec =
     tie.close
     (tie.spec
     (λ c. search rules)

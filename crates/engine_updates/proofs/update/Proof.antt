@@ -62,8 +62,8 @@ unfolding update
 returns-4 c b e within =
     rw c.before.before.before.before.before.before.before.before.fact4.given.1 (c.exclude.ensures b e within)
 
-pub update-spec : {M : Type 1} → statement M
-update-spec =
+pub update_spec : {M : Type 1} → statement M
+update_spec =
     tie.close
     (tie.spec
     (λ c. search rules)

@@ -14,5 +14,5 @@ returns-2 : tie.Need-returns-2
 unfolding update
 returns-2 c b = rw (ne_eqb _ _ c.if1.false) (simp set-get_or)
 
-pub validate-spec : {M : Type 1} → statement M
-validate-spec = tie.close (tie.spec (λ c. search rules) returns (λ c. search rules) returns-2)
+pub validate_spec : {M : Type 1} → statement M
+validate_spec = tie.close (tie.spec (λ c. search rules) returns (λ c. search rules) returns-2)

@@ -11,5 +11,5 @@ returns c = let f = c.before.ranges in rw (simp (to_z-of_z, f.a, f.b) at c.if1.t
 returns-2 : tie.Need-returns-2
 returns-2 c = let f = c.before.ranges in rw (simp (to_z-of_z, f.a, f.b) at c.if1.false, lesser) (search rules)
 
-pub lesser-spec : {M : Type 1} → statement M
-lesser-spec = tie.close (tie.spec returns returns-2)
+pub lesser_spec : {M : Type 1} → statement M
+lesser_spec = tie.close (tie.spec returns returns-2)

@@ -10,5 +10,5 @@ add-result c = search (rules, sum_fits)
 returns : tie.Need-returns
 returns c = search (rules, sum_fits)
 
-pub sum-spec : {M : Type 1} → statement M
-sum-spec = tie.close (tie.spec add-result returns)
+pub sum_spec : {M : Type 1} → statement M
+sum_spec = tie.close (tie.spec add-result returns)

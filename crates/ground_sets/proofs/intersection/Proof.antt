@@ -8,5 +8,5 @@ returns : tie.Need-returns
 unfolding intersection
 returns c = refl
 
-pub intersection-spec : {M : Type 1} → statement M
-intersection-spec = tie.close (tie.spec returns)
+pub intersection_spec : {M : Type 1} → statement M
+intersection_spec = tie.close (tie.spec returns)

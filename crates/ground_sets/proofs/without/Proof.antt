@@ -2,13 +2,13 @@
 use borrow.Author.Rules.{rules}
 use mathlib.Core.Path.{ap}
 use Rattle.ground_sets.specs.Bit.{without, difference}
-use Rattle.ground_sets.specs.BitLaws.{singleton-shifted}
+use Rattle.ground_sets.specs.BitLaws.{singleton_shifted}
 use Rattle.ground_sets.proofs.without.Statement.{statement}
 use Rattle.ground_sets.proofs.without.Tie as tie
 
 returns : tie.Need-returns
 unfolding without difference
-returns c = ap (difference 64 c.args.w) (singleton-shifted 64 c.args.k c.requires)
+returns c = ap (difference 64 c.args.w) (singleton_shifted 64 c.args.k c.requires)
 
-pub without-spec : {M : Type 1} → statement M
-without-spec = tie.close (tie.spec (λ c. search rules) returns)
+pub without_spec : {M : Type 1} → statement M
+without_spec = tie.close (tie.spec (λ c. search rules) returns)

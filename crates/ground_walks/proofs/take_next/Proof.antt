@@ -14,5 +14,5 @@ returns c =
 returns-2 : tie.Need-returns-2
 returns-2 c = rw c.before.if1.false c.take-lowest.ensures
 
-pub take-next-spec : {M : Type 1} → statement M
-take-next-spec = tie.close (tie.spec (λ c κs. search rules) (λ c κs. search rules) returns (λ c κs. search rules) returns-2)
+pub take_next_spec : {M : Type 1} → statement M
+take_next_spec = tie.close (tie.spec (λ c κs. search rules) (λ c κs. search rules) returns (λ c κs. search rules) returns-2)

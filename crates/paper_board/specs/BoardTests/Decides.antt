@@ -9,7 +9,7 @@ use Rattle.ground_arithmetic.specs.Bools.{clash, is_false, refuted, and_parts, a
 use Rattle.ground_arithmetic.specs.Linear.{whole}
 use Rattle.paper_board.specs.Paper.View.{View, Live, Valid}
 use Rattle.paper_board.specs.Paper.Tests.{live, valid, implies}
-use Rattle.paper_board.specs.BoardTests.Live.{live-yes, live-show, valid-yes, valid-show}
+use Rattle.paper_board.specs.BoardTests.Live.{live_yes, live_show, valid_yes, valid_show}
 use Rattle.paper_board.specs.BoardTests.WithinLimits.{all}
 
 pub record Decides (t : Bool) (P : Type 0) : Type 0 where
@@ -28,8 +28,8 @@ pub retested : {s t : Bool} {P : Type 0} → s ≡ t → Decides t P → Decides
 retested e d = record { yes = λ x. d.yes (sym e ∙ x); show = λ p. e ∙ d.show p }
 
 -- tests that decide the same are the same
-pub same-decision : {s t : Bool} {P : Type 0} → Decides s P → Decides t P → s ≡ t
-same-decision {s} {t} d e = same_tests s t (λ h. e.show (d.yes h)) (λ h. d.show (e.yes h))
+pub same_decision : {s t : Bool} {P : Type 0} → Decides s P → Decides t P → s ≡ t
+same_decision {s} {t} d e = same_tests s t (λ h. e.show (d.yes h)) (λ h. d.show (e.yes h))
 
 -- a test whose outcome is known
 pub passed : {P : Type 0} → P → Decides true P
@@ -47,11 +47,11 @@ pub ◌and◌ : {s t : Bool} {P Q : Type 0} → Decides s P → Decides t Q → 
     }
 
 -- the outcome of `s && t` is that of t where s holds, and that of s where it fails
-pub second-asked : {s t : Bool} {P Q : Type 0} → s ≡ true → Decides s P → Decides t Q → Decides t (P × Q)
-second-asked h d e = rw h at (d and e)
+pub second_asked : {s t : Bool} {P Q : Type 0} → s ≡ true → Decides s P → Decides t Q → Decides t (P × Q)
+second_asked h d e = rw h at (d and e)
 
-pub first-failed : {s : Bool} {P Q : Type 0} → s ≡ false → Decides s P → Decides s (P × Q)
-first-failed h d = record { yes = λ e. absurd (refuted h e); show = λ p. d.show p.0 }
+pub first_failed : {s : Bool} {P Q : Type 0} → s ≡ false → Decides s P → Decides s (P × Q)
+first_failed h d = record { yes = λ e. absurd (refuted h e); show = λ p. d.show p.0 }
 
 pub implied : {s t : Bool} {P Q : Type 0} → Decides s P → Decides t Q → Decides (implies s t) (P → Q)
 unfolding implies
@@ -86,11 +86,11 @@ same true false = record { yes = λ e. cc; show = λ e. cc }
 same false true = record { yes = λ e. cc; show = λ e. cc }
 same false false = record { yes = λ e. refl; show = λ e. refl }
 
-pub live-is : (v : View) (j : ℕ) → Decides (live v j) (Live v j)
-live-is v j = record { yes = live-yes v j; show = live-show v j }
+pub live_is : (v : View) (j : ℕ) → Decides (live v j) (Live v j)
+live_is v j = record { yes = live_yes v j; show = live_show v j }
 
-pub valid-is : (v : View) (j : ℕ) → Decides (valid v j) (Valid v j)
-valid-is v j = record { yes = valid-yes v j; show = valid-show v j }
+pub valid_is : (v : View) (j : ℕ) → Decides (valid v j) (Valid v j)
+valid_is v j = record { yes = valid_yes v j; show = valid_show v j }
 
 -- orders of times
 pub at_most : (x y : ℤ) → Decides (le_z x y) (x ≤ℤ y)
@@ -99,8 +99,8 @@ at_most x y = record { yes = λ e. omega whole; show = λ h. omega whole }
 pub earlier : (x y : ℤ) → Decides (lt_z x y) (x <ℤ y)
 earlier x y = record { yes = λ e. omega whole; show = λ h. omega whole }
 
-pub not-at-most : (x y : ℤ) → Decides (not (le_z x y)) (y <ℤ x)
-not-at-most x y =
+pub not_at_most : (x y : ℤ) → Decides (not (le_z x y)) (y <ℤ x)
+not_at_most x y =
     record {
       yes = λ e. omega (whole, not-true (le_z x y) e);
       show = λ h. let f : le_z x y ≡ false = omega whole in rw f;

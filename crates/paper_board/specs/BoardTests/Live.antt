@@ -11,22 +11,22 @@ abbrev pub roomy : Row → Bool
 roomy r = le_z (r.earliest +ℤ r.length) r.latest
 
 module _ (v : View) (j : ℕ) where
-  pub live-yes : live v j ≡ true → Live v j
+  pub live_yes : live v j ≡ true → Live v j
   unfolding live
-  live-yes e =
+  live_yes e =
       let (l, m) = and_parts (ltb j v.jobs) (not (eqb (v.row j).mark 2)) e in
       (ltb-true j v.jobs l, eqb-false (v.row j).mark 2 (not-true _ m))
 
-  pub live-show : Live v j → live v j ≡ true
+  pub live_show : Live v j → live v j ≡ true
   unfolding live
-  live-show (l, m) = rw (lt-ltb j v.jobs l, ne_eqb (v.row j).mark 2 m)
+  live_show (l, m) = rw (lt-ltb j v.jobs l, ne_eqb (v.row j).mark 2 m)
 
-  pub valid-yes : valid v j ≡ true → Valid v j
+  pub valid_yes : valid v j ≡ true → Valid v j
   unfolding valid
-  valid-yes e =
+  valid_yes e =
       let (l, m) = and_parts (ltb j v.jobs) (eqb (v.row j).mark 1) e in
       (ltb-true j v.jobs l, eqb-true (v.row j).mark 1 m)
 
-  pub valid-show : Valid v j → valid v j ≡ true
+  pub valid_show : Valid v j → valid v j ≡ true
   unfolding valid
-  valid-show (l, m) = rw (lt-ltb j v.jobs l, eq-eqb (v.row j).mark 1 m)
+  valid_show (l, m) = rw (lt-ltb j v.jobs l, eq-eqb (v.row j).mark 1 m)

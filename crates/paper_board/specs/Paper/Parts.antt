@@ -6,8 +6,8 @@ use Rattle.paper_board.specs.declared.Books.{Books}
 
 -- ---- boards
 
-abbrev pub ofParts : ℕ → List ℤ → List ℤ → List ℤ → List ℕ → List ℕ → List ℕ → Books → Board
-ofParts jobs lengths earliest latest marks after before books =
+abbrev pub of_parts : ℕ → List ℤ → List ℤ → List ℤ → List ℕ → List ℕ → List ℕ → Books → Board
+of_parts jobs lengths earliest latest marks after before books =
     record {
       jobs = jobs;
       lengths = lengths;
@@ -21,22 +21,22 @@ ofParts jobs lengths earliest latest marks after before books =
 
 -- the board b with other arrays
 abbrev pub filled : Board → List ℤ → List ℤ → List ℤ → List ℕ → List ℕ → List ℕ → Board
-filled b lengths earliest latest marks after before = ofParts b.jobs lengths earliest latest marks after before b.books
+filled b lengths earliest latest marks after before = of_parts b.jobs lengths earliest latest marks after before b.books
 
 -- the board b with another number of jobs
-abbrev pub withJobs : Board → ℕ → Board
-withJobs b jobs = ofParts jobs b.lengths b.earliest b.latest b.marks b.after b.before b.books
+abbrev pub with_jobs : Board → ℕ → Board
+with_jobs b jobs = of_parts jobs b.lengths b.earliest b.latest b.marks b.after b.before b.books
 
 -- the board b with other books
-abbrev pub withBooks : Board → Books → Board
-withBooks b books = ofParts b.jobs b.lengths b.earliest b.latest b.marks b.after b.before books
+abbrev pub with_books : Board → Books → Board
+with_books b books = of_parts b.jobs b.lengths b.earliest b.latest b.marks b.after b.before books
 
 -- ---- books
 
 -- The tally "starts at 0".
-abbrev pub emptyBooks : Books
-emptyBooks = record { tally = 0 }
+abbrev pub empty_books : Books
+empty_books = record { tally = 0 }
 
 -- the books with another tally
-abbrev pub withTally : Books → ℕ → Books
-withTally books tally = record { tally = tally }
+abbrev pub with_tally : Books → ℕ → Books
+with_tally books tally = record { tally = tally }

@@ -53,12 +53,12 @@ row_of b k =
     }
 
 -- "The set is one 64-bit word with bit k for job k.": job k is in the set after i, and i in the set before k
-abbrev pub arcOf : Board → ℕ → ℕ → Bool
-arcOf b i k = bit (get_or b.after i 0) k
+abbrev pub arc_of : Board → ℕ → ℕ → Bool
+arc_of b i k = bit (get_or b.after i 0) k
 
-abbrev pub arcIntoOf : Board → ℕ → ℕ → Bool
-arcIntoOf b k i = bit (get_or b.before k 0) i
+abbrev pub arc_into_of : Board → ℕ → ℕ → Bool
+arc_into_of b k i = bit (get_or b.before k 0) i
 
 -- what a board shows
 abbrev pub view : Board → View
-view b = record { jobs = b.jobs; row = row_of b; arc = arcOf b }
+view b = record { jobs = b.jobs; row = row_of b; arc = arc_of b }

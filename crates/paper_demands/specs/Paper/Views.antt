@@ -3,13 +3,13 @@ use Rattle.std.specs.Prelude.{◌≡◌, ◌⊎◌, ◌↔◌, ℕ, ◌≤◌, �
 use Rattle.ground_sets.specs.Bit.{bit}
 use Rattle.paper_board.specs.Paper.View.{View, Live, Invalid, Arc}
 use Rattle.paper_rules.specs.Paper.Rules.{E, D}
-use Rattle.paper_entries.specs.Paper.Replies.{RowReply, shows-row, PairReply, shows-pair}
+use Rattle.paper_entries.specs.Paper.Replies.{RowReply, shows_row, PairReply, shows_pair}
 
 -- "Row of a job: mark, E, D, the set before it and the set after it."
 pub record RowShows (v : View) (j : ℕ) (r : RowReply) : Type 0 where
   pub before : ℕ
   pub after : ℕ
-  pub is : r ≡ shows-row (v.row j).mark (E v j) (D v j) before after
+  pub is : r ≡ shows_row (v.row j).mark (E v j) (D v j) before after
   -- "0 undecided, 1 valid, 2 invalid"
   pub mark : (v.row j).mark ≤ 2
   -- "The set is one 64-bit word with bit k for job k."
@@ -18,7 +18,7 @@ pub record RowShows (v : View) (j : ℕ) (r : RowReply) : Type 0 where
 
 -- "0 no arc, 1 A to B, 2 B to A, 3 both"
 pub data Arcs (v : View) (a b : ℕ) : ℕ → Type 0 where
-  no-arc : (Arc v a b → ⊥) → (Arc v b a → ⊥) → Arcs v a b 0
+  no_arc : (Arc v a b → ⊥) → (Arc v b a → ⊥) → Arcs v a b 0
   forth : Arc v a b → (Arc v b a → ⊥) → Arcs v a b 1
   back : (Arc v a b → ⊥) → Arc v b a → Arcs v a b 2
   both : Arc v a b → Arc v b a → Arcs v a b 3
@@ -37,6 +37,6 @@ pub record Gap (v : View) (a b : ℕ) (gap : ℤ) : Type 0 where
 pub record PairShows (v : View) (a b : ℕ) (r : PairReply) : Type 0 where
   pub arcs : ℕ
   pub gap : ℤ
-  pub is : r ≡ shows-pair arcs gap
+  pub is : r ≡ shows_pair arcs gap
   pub live : Live v a → Live v b → Arcs v a b arcs × Gap v a b gap
   pub invalid : Invalid v a ⊎ Invalid v b → (arcs ≡ 0) × (gap ≡ pos 0)

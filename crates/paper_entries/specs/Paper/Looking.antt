@@ -3,7 +3,7 @@ use Rattle.std.specs.Prelude.{true, false, cond, ◌&&◌, [], ◌∷◌, ℕ, �
 use Rattle.std.proofs.Math.Option.{none, some}
 use Rattle.paper_board.specs.declared.Board.{Board}
 use Rattle.paper_board.specs.declared.Refusal.TheVariants as Refused
-use Rattle.paper_board.specs.Paper.View.{row_of, arcOf, view}
+use Rattle.paper_board.specs.Paper.View.{row_of, arc_of, view}
 use Rattle.paper_board.specs.Paper.Tests.{live}
 use Rattle.paper_closure.specs.Passes.{passes}
 use Rattle.paper_entries.specs.declared.RowAnswer.{RowAnswer}
@@ -11,11 +11,11 @@ use Rattle.paper_entries.specs.declared.RowAnswer.TheVariants as Rows
 use Rattle.paper_entries.specs.declared.PairAnswer.{PairAnswer}
 use Rattle.paper_entries.specs.declared.PairAnswer.TheVariants as Pairs
 use Rattle.paper_entries.specs.Paper.Entry.{number}
-use Rattle.paper_entries.specs.Paper.Checks.{jobCheck, pairChecks, firstRefusal}
+use Rattle.paper_entries.specs.Paper.Checks.{job_check, pair_checks, first_refusal}
 
 -- "Row of a job: mark, E, D, the set before it and the set after it."
-abbrev pub rowShown : Board → ℕ → RowAnswer
-rowShown b j =
+abbrev pub row_shown : Board → ℕ → RowAnswer
+row_shown b j =
     Rows.Row (row_of b j).mark (row_of b j).earliest (row_of b j).latest (get_or b.before j 0) (get_or b.after j 0)
 
 -- refusals 0 and 2
@@ -23,16 +23,16 @@ unfoldable pub row : Board → ℤ → RowAnswer
 row b j =
     elim (passes b) [
       | false ↦ Rows.Refused Refused.Board
-      | true ↦ elim (firstRefusal (jobCheck b.jobs j ∷ [])) [ some r ↦ Rows.Refused r | none ↦ rowShown b (number j) ]
+      | true ↦ elim (first_refusal (job_check b.jobs j ∷ [])) [ some r ↦ Rows.Refused r | none ↦ row_shown b (number j) ]
     ]
 
 -- "0 no arc, 1 A to B, 2 B to A, 3 both"
 abbrev pub arcs : Board → ℕ → ℕ → ℕ
-arcs b x y = cond (arcOf b x y) 1 0 + cond (arcOf b y x) 2 0
+arcs b x y = cond (arc_of b x y) 1 0 + cond (arc_of b y x) 2 0
 
 -- "and the gap, which is E of B minus D of A and may be negative. If either is invalid, both numbers are 0."
-abbrev pub pairShown : Board → ℕ → ℕ → PairAnswer
-pairShown b x y =
+abbrev pub pair_shown : Board → ℕ → ℕ → PairAnswer
+pair_shown b x y =
     cond
     (live (view b) x && live (view b) y)
     (Pairs.Pair (arcs b x y) ((row_of b y).earliest -ℤ (row_of b x).latest))
@@ -43,5 +43,5 @@ unfoldable pub pair : Board → ℤ → ℤ → PairAnswer
 pair b x y =
     elim (passes b) [
       | false ↦ Pairs.Refused Refused.Board
-      | true ↦ elim (firstRefusal (pairChecks b.jobs x y)) [ some r ↦ Pairs.Refused r | none ↦ pairShown b (number x) (number y) ]
+      | true ↦ elim (first_refusal (pair_checks b.jobs x y)) [ some r ↦ Pairs.Refused r | none ↦ pair_shown b (number x) (number y) ]
     ]

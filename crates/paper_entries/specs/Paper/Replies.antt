@@ -10,29 +10,29 @@ use Rattle.paper_entries.specs.declared.PairAnswer.TheVariants as Pairs
 
 -- "`(ok K)` for an addition, K its number; `(ok)`; `(no R)` with refusal R"
 pub data Reply : Type 0 where
-  ok-number : ℕ → Reply
+  ok_number : ℕ → Reply
   ok : Reply
   no_number : ℕ → Reply
 
-abbrev pub replyOf : Answer → Reply
-replyOf (Answers.Added k) = ok-number k
-replyOf Answers.Accepted = ok
-replyOf (Answers.Refused r) = no_number (number_of r)
+abbrev pub reply_of : Answer → Reply
+reply_of (Answers.Added k) = ok_number k
+reply_of Answers.Accepted = ok
+reply_of (Answers.Refused r) = no_number (number_of r)
 
 -- "Row of a job: mark, E, D, the set before it and the set after it."
 pub data RowReply : Type 0 where
-  shows-row : ℕ → ℤ → ℤ → ℕ → ℕ → RowReply
+  shows_row : ℕ → ℤ → ℤ → ℕ → ℕ → RowReply
   no_row : ℕ → RowReply
 
-abbrev pub rowReplyOf : RowAnswer → RowReply
-rowReplyOf (Rows.Row m e d before after) = shows-row m e d before after
-rowReplyOf (Rows.Refused r) = no_row (number_of r)
+abbrev pub row_reply_of : RowAnswer → RowReply
+row_reply_of (Rows.Row m e d before after) = shows_row m e d before after
+row_reply_of (Rows.Refused r) = no_row (number_of r)
 
 -- "Pair of A, B: 0 no arc, 1 A to B, 2 B to A, 3 both; and the gap"
 pub data PairReply : Type 0 where
-  shows-pair : ℕ → ℤ → PairReply
-  no-pair : ℕ → PairReply
+  shows_pair : ℕ → ℤ → PairReply
+  no_pair : ℕ → PairReply
 
-abbrev pub pairReplyOf : PairAnswer → PairReply
-pairReplyOf (Pairs.Pair arcs gap) = shows-pair arcs gap
-pairReplyOf (Pairs.Refused r) = no-pair (number_of r)
+abbrev pub pair_reply_of : PairAnswer → PairReply
+pair_reply_of (Pairs.Pair arcs gap) = shows_pair arcs gap
+pair_reply_of (Pairs.Refused r) = no_pair (number_of r)

@@ -2,11 +2,11 @@
 use Rattle.std.specs.Prelude.{cond, List, [], ◌∷◌, ◌++◌, ℕ, ◌+◌, eqb}
 use Rattle.paper_board.specs.declared.Board.{Board}
 use Rattle.paper_board.specs.declared.Books.{Books}
-use Rattle.paper_board.specs.Paper.Limits.{emptyBoard}
+use Rattle.paper_board.specs.Paper.Limits.{empty_board}
 use Rattle.paper_entries.specs.declared.Entered.{Entered}
 use Rattle.paper_entries.specs.Paper.Entry.{Entry}
 use Rattle.paper_entries.specs.Paper.Enter.{enter}
-use Rattle.paper_entries.specs.Paper.Replies.{Reply, ok-number, ok, no_number, replyOf}
+use Rattle.paper_entries.specs.Paper.Replies.{Reply, ok_number, ok, no_number, reply_of}
 
 -- "Every entry call exists in two manners: the board goes in and comes back; and the host's own board is altered where it
 -- is kept, with the same answers."
@@ -30,35 +30,35 @@ after b (c ∷ cs) = after (outcome b c).board cs
 
 -- "An entry is accepted when its call gives no refusal"
 abbrev pub kept : Reply → Entry → List Entry
-kept (ok-number k) e = e ∷ []
+kept (ok_number k) e = e ∷ []
 kept ok e = e ∷ []
 kept (no_number r) e = []
 
 -- the accepted entries, in order
 unfoldable pub accepted : Board → List Call → List Entry
 accepted b [] = []
-accepted b (c ∷ cs) = kept (replyOf (outcome b c).answer) c.entry ++ accepted (outcome b c).board cs
+accepted b (c ∷ cs) = kept (reply_of (outcome b c).answer) c.entry ++ accepted (outcome b c).board cs
 
 -- the board after the calls, from an empty board with these books
-abbrev pub finalBoard : Books → List Call → Board
-finalBoard books cs = after (emptyBoard books) cs
+abbrev pub final_board : Books → List Call → Board
+final_board books cs = after (empty_board books) cs
 
 -- what the calls accepted, in order
-abbrev pub acceptedBy : Books → List Call → List Entry
-acceptedBy books cs = accepted (emptyBoard books) cs
+abbrev pub accepted_by : Books → List Call → List Entry
+accepted_by books cs = accepted (empty_board books) cs
 
 -- "a tally of calls answered 8": how many of the calls are
-abbrev pub oneImpossible : Reply → ℕ
-oneImpossible (ok-number k) = 0
-oneImpossible ok = 0
-oneImpossible (no_number r) = cond (eqb r 8) 1 0
+abbrev pub one_impossible : Reply → ℕ
+one_impossible (ok_number k) = 0
+one_impossible ok = 0
+one_impossible (no_number r) = cond (eqb r 8) 1 0
 
 unfoldable pub impossibles : Board → List Call → ℕ
 impossibles b [] = 0
-impossibles b (c ∷ cs) = oneImpossible (replyOf (outcome b c).answer) + impossibles (outcome b c).board cs
+impossibles b (c ∷ cs) = one_impossible (reply_of (outcome b c).answer) + impossibles (outcome b c).board cs
 
 -- A claim P holds of each call in turn: of the board that it gets, of what was accepted before it, and of the call.
 unfoldable pub Each : (Board → List Entry → Call → Type 0) → Board → List Entry → List Call → Type 0
 Each P b before [] = Unit
 Each P b before (c ∷ cs) =
-    P b before c × Each P (outcome b c).board (before ++ kept (replyOf (outcome b c).answer) c.entry) cs
+    P b before c × Each P (outcome b c).board (before ++ kept (reply_of (outcome b c).answer) c.entry) cs

@@ -9,23 +9,23 @@ use Rattle.paper_plans.specs.declared.Planned.{Planned}
 
 -- found with T and the plan; none with T; spent with the budget; or the refusal's number
 pub data PlanReply : Type 0 where
-  plan-found : ℕ → Placing → PlanReply
-  plan-none : ℕ → PlanReply
-  plan-spent : ℕ → PlanReply
-  no-plan : ℕ → PlanReply
+  plan_found : ℕ → Placing → PlanReply
+  plan_none : ℕ → PlanReply
+  plan_spent : ℕ → PlanReply
+  no_plan : ℕ → PlanReply
 
 -- "its plan, as a schedule, holds the placed jobs with their starts and no others"
 abbrev pub placing : ℕ → List ℤ → Placing
 placing word starts = record { placed = bit word; start = λ j. get_or starts j (pos 0) }
 
-abbrev pub placingOf : Planned → Placing
-placingOf p = placing p.placed p.starts
+abbrev pub placing_of : Planned → Placing
+placing_of p = placing p.placed p.starts
 
-abbrev pub replyWith : Placing → PlanAnswer → PlanReply
-replyWith p (Answers.Found t) = plan-found t p
-replyWith p (Answers.None t) = plan-none t
-replyWith p (Answers.Spent t) = plan-spent t
-replyWith p (Answers.Refused r) = no-plan (number_of r)
+abbrev pub reply_with : Placing → PlanAnswer → PlanReply
+reply_with p (Answers.Found t) = plan_found t p
+reply_with p (Answers.None t) = plan_none t
+reply_with p (Answers.Spent t) = plan_spent t
+reply_with p (Answers.Refused r) = no_plan (number_of r)
 
-abbrev pub planReplyOf : Planned → PlanReply
-planReplyOf p = replyWith (placingOf p) p.answer
+abbrev pub plan_reply_of : Planned → PlanReply
+plan_reply_of p = reply_with (placing_of p) p.answer

@@ -20,29 +20,29 @@ add t (found u ps) = found (t + u) ps
 add t (none u) = none (t + u)
 
 -- the second ending, after the tries of the first, where the first finds nothing
-infixr 30 ◌orElse◌
-unfoldable pub ◌orElse◌ : Ending → Ending → Ending
+infixr 30 ◌or_else◌
+unfoldable pub ◌or_else◌ : Ending → Ending → Ending
 found t ps or_else o = found t ps
 none t or_else o = add t o
 
 module _ (v : View) where
   -- "its start is the later of E and the end of the job placed before, or E where none is"
-  unfoldable pub startAfter : List ℕ → ℕ → ℤ
-  startAfter [] j = E v j
-  startAfter (i ∷ ps) j = greater (E v j) (startAfter ps i +ℤ L v i)
+  unfoldable pub start_after : List ℕ → ℕ → ℤ
+  start_after [] j = E v j
+  start_after (i ∷ ps) j = greater (E v j) (start_after ps i +ℤ L v i)
 
   -- the start of k where it was placed, and 0 where it was not
   unfoldable pub start_in : List ℕ → ℕ → ℤ
   start_in [] k = pos 0
-  start_in (j ∷ ps) k = cond (eqb j k) (startAfter ps j) (start_in ps k)
+  start_in (j ∷ ps) k = cond (eqb j k) (start_after ps j) (start_in ps k)
 
   -- "its plan, as a schedule, holds the placed jobs with their starts and no others"
   abbrev pub plan_of : List ℕ → Placing
   plan_of ps = record { placed = among ps; start = start_in ps }
 
   -- "its end is at most D"
-  abbrev pub inTime : List ℕ → ℕ → Bool
-  inTime ps j = le_z (startAfter ps j +ℤ L v j) (D v j)
+  abbrev pub in_time : List ℕ → ℕ → Bool
+  in_time ps j = le_z (start_after ps j +ℤ L v j) (D v j)
 
   module _ (order : List ℕ) where
     -- "every valid job with an arc to it is placed"
@@ -56,7 +56,7 @@ module _ (v : View) where
     -- "A try places the job if every valid job with an arc to it is placed and its end is at most D"; "After a placing it goes
     -- on from the longer list", which is `deeper`
     abbrev pub try : (List ℕ → Ending) → List ℕ → ℕ → Ending
-    try deeper ps j = cond (ready ps j && inTime ps j) (deeper (j ∷ ps)) (none 0)
+    try deeper ps j = cond (ready ps j && in_time ps j) (deeper (j ∷ ps)) (none 0)
 
     -- the jobs js still to be tried from the list ps: "Each job tried counts one"; "when all have been tried it takes back the
     -- last placing"

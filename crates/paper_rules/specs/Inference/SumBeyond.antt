@@ -2,7 +2,7 @@
 -- inference of R4 and R5 pushes its bound to.
 use Rattle.std.specs.Prelude.{◌≡◌, refl, Bool, true, ℕ, ℤ, ◌+ℤ◌, ◌≤ℤ◌}
 use Rattle.ground_arithmetic.specs.Linear.{whole, plus}
-use Rattle.ground_arithmetic.specs.Sum.{least-member}
+use Rattle.ground_arithmetic.specs.Sum.{least_member}
 use Rattle.paper_board.specs.Paper.View.{View, Valid, Side, bound, Beyond}
 use Rattle.paper_rules.specs.Paper.Rules.{energy}
 use Rattle.paper_rules.specs.Inference.Infers.{Pushing}
@@ -18,8 +18,8 @@ pub record SumBeyond (v : View) (s : Side) (j : ℕ) (z : ℤ) : Type 0 where
 
 module _ (v : View) (s : Side) (j : ℕ) where
   -- such a set pushes j
-  pub sum-pushes : (z : ℤ) (p : SumBeyond v s j z) → Pushing v s j p.set (bound s (v.row p.first))
-  sum-pushes z p =
+  pub sum_pushes : (z : ℤ) (p : SumBeyond v s j z) → Pushing v s j p.set (bound s (v.row p.first))
+  sum_pushes z p =
       record {
         member = p.first;
         inside = p.member;
@@ -29,10 +29,10 @@ module _ (v : View) (s : Side) (j : ℕ) where
       }
 
   -- and a set that pushes j comes to no less than it pushes j to
-  pub pushing-sum : (S : ℕ → Bool) (m : ℤ) → Pushing v s j S m
+  pub pushing_sum : (S : ℕ → Bool) (m : ℤ) → Pushing v s j S m
       → (z : ℤ) × (sum : SumBeyond v s j z) × ((m +ℤ energy v S) ≤ℤ z) × ((k : ℕ) → sum.set k ≡ true → S k ≡ true)
-  pushing-sum S m p =
-      let (x, l, sx, least) = least-member v.jobs S (λ k. bound s (v.row k)) p.member (p.valid p.member p.inside).0 p.inside in
+  pushing_sum S m p =
+      let (x, l, sx, least) = least_member v.jobs S (λ k. bound s (v.row k)) p.member (p.valid p.member p.inside).0 p.inside in
       let sum : SumBeyond v s j (bound s (v.row x) +ℤ energy v S) =
       record {
         set = S;

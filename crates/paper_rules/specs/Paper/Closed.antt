@@ -2,7 +2,7 @@
 use Rattle.std.specs.Prelude.{◌≡◌, ◌≢◌, ℕ, ◌<◌, ◌≤ℤ◌}
 use Rattle.paper_board.specs.declared.Board.{Board}
 use Rattle.paper_board.specs.Paper.View.{View, Live, Valid, Arc, view}
-use Rattle.paper_board.specs.Paper.Facts.{is-valid}
+use Rattle.paper_board.specs.Paper.Facts.{is_valid}
 use Rattle.paper_board.specs.Paper.Limits.{Within, BooksWithin}
 use Rattle.paper_rules.specs.Paper.Rules.{Rules, E, D}
 use Rattle.paper_rules.specs.Paper.Entries.{Entries, Shows, ◌⊑◌}
@@ -27,10 +27,10 @@ pub record LeastClosed (es : Entries) (b : Board) : Type 0 where
   pub closed : Closed es b
   pub least : (c : Board) → Closed es c → Included (view b) (view c)
   -- "Only an entry makes a job valid."
-  pub entered : (j : ℕ) → (j < es.jobs → (es.row j).mark ≢ 1) → (es.facts (is-valid j) → ⊥) → Valid (view b) j → ⊥
+  pub entered : (j : ℕ) → (j < es.jobs → (es.row j).mark ≢ 1) → (es.facts (is_valid j) → ⊥) → Valid (view b) j → ⊥
 
 -- The same by the order of boards, which compares valid marks and lengths too and so needs no word on who makes a job valid: the
--- proofs go by this one. Theorems `least-closed` and `closed-least` say that the two are the same.
+-- proofs go by this one. Theorems `least_closed` and `closed_least` say that the two are the same.
 pub record Least (es : Entries) (b : Board) : Type 0 where
   pub closed : Closed es b
   pub least : (c : Board) → Closed es c → view b ⊑ view c

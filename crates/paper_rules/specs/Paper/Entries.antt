@@ -1,8 +1,8 @@
 -- Entries, what it means that a board shows them, and the order of boards by how much they show.
 use Rattle.std.specs.Prelude.{◌≡◌, ◌≢◌, ℕ, ◌<◌, ◌≤◌, ◌≤ℤ◌}
 use Rattle.paper_board.specs.Paper.View.{Row, View, Arc}
-use Rattle.paper_board.specs.Paper.Facts.{Fact, is-arc, Holds, AboutJobs}
-use Rattle.paper_board.specs.Paper.Limits.{jobLimit, Fits}
+use Rattle.paper_board.specs.Paper.Facts.{Fact, is_arc, Holds, AboutJobs}
+use Rattle.paper_board.specs.Paper.Limits.{job_limit, Fits}
 
 -- The jobs added, in order, each with its length, window and mark, and a set of facts stated of them.
 pub record Entries : Type 1 where
@@ -13,7 +13,7 @@ pub record Entries : Type 1 where
 -- Entries that pass the checks of the table: no more jobs than a board holds, lengths and times within the limits, and
 -- facts about jobs added. A row marked 2 is that of a board handed in, and holds no length or time.
 pub record Admissible (es : Entries) : Type 0 where
-  pub jobs : es.jobs ≤ jobLimit
+  pub jobs : es.jobs ≤ job_limit
   pub rows : (k : ℕ) → k < es.jobs → (es.row k).mark ≢ 2 → Fits (es.row k)
   pub about : (f : Fact) → es.facts f → AboutJobs es.jobs f
 
@@ -40,7 +40,7 @@ pub record Shows (es : Entries) (v : View) : Type 0 where
 
 -- the arcs that a view shows
 pub data Drawn (v : View) : Fact → Type 0 where
-  drawn : (i k : ℕ) → Arc v i k → Drawn v (is-arc i k)
+  drawn : (i k : ℕ) → Arc v i k → Drawn v (is_arc i k)
 
 -- "A board handed in to a call counts as the entries that it shows."
 abbrev pub shown : View → Entries

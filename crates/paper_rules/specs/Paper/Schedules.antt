@@ -1,7 +1,7 @@
 -- Schedules: sets of jobs with a start each, and what a schedule of entries, or one that keeps what a board shows, is.
 use Rattle.std.specs.Prelude.{◌≡◌, ◌≢◌, ◌⊎◌, Bool, true, false, ℕ, ◌<◌, ℤ, neg_ℤ, ◌+ℤ◌, ◌≤ℤ◌}
 use Rattle.paper_board.specs.Paper.View.{View, early, late}
-use Rattle.paper_board.specs.Paper.Facts.{Fact, is-arc, is_bound, is-valid, is-invalid}
+use Rattle.paper_board.specs.Paper.Facts.{Fact, is_arc, is_bound, is_valid, is_invalid}
 use Rattle.paper_rules.specs.Paper.Entries.{Entries, shown}
 
 -- "a set of added jobs with a whole-minute start each"
@@ -19,11 +19,11 @@ end es p j = p.start j +ℤ (es.row j).length
 -- A placing respects a fact. "It holds every job marked 1 and none marked 2. Each job lies inside all its entered windows.
 -- Each arc holds if both ends are in the set."
 abbrev pub Respects : Entries → Placing → Fact → Type 0
-Respects es p (is-arc i k) = Placed p i → Placed p k → end es p i ≤ℤ p.start k
+Respects es p (is_arc i k) = Placed p i → Placed p k → end es p i ≤ℤ p.start k
 Respects es p (is_bound early j z) = Placed p j → z ≤ℤ p.start j
 Respects es p (is_bound late j z) = Placed p j → z ≤ℤ neg_ℤ (end es p j)
-Respects es p (is-valid j) = Placed p j
-Respects es p (is-invalid j) = p.placed j ≡ false
+Respects es p (is_valid j) = Placed p j
+Respects es p (is_invalid j) = p.placed j ≡ false
 
 pub record Schedule (es : Entries) (p : Placing) : Type 0 where
   pub added : (j : ℕ) → Placed p j → j < es.jobs

@@ -4,12 +4,12 @@ use Rattle.std.proofs.Common.{arith}
 use Rattle.ground_arithmetic.specs.Bools.{refuted}
 use Rattle.ground_arithmetic.specs.Linear.{whole, minus}
 use Rattle.paper_board.specs.Paper.View.{View, Live, early, late}
-use Rattle.paper_board.specs.Paper.Facts.{Fact, is-arc, is_bound, is-valid, is-invalid, Holds}
+use Rattle.paper_board.specs.Paper.Facts.{Fact, is_arc, is_bound, is_valid, is_invalid, Holds}
 use Rattle.paper_rules.specs.Paper.Entries.{Entries, Shown, Shows, drawn, shown}
 use Rattle.paper_rules.specs.Paper.Schedules.{Placing, Placed, end, Respects, Schedule, Keeps}
 
-pub keeps-schedule : (es : Entries) (v : View) → Shows es v → (p : Placing) → Keeps v p → Schedule es p
-keeps-schedule es v shows p h =
+pub keeps_schedule : (es : Entries) (v : View) → Shows es v → (p : Placing) → Keeps v p → Schedule es p
+keeps_schedule es v shows p h =
     record {
       added = added;
       valid = λ j l m. h.valid j (omega (arith, shows.count)) ((entered j l).valid m);
@@ -34,9 +34,9 @@ keeps-schedule es v shows p h =
     same_end j e = rw ((entered j (added j e)).length (live j e).1)
 
     fact : (f : Fact) → Holds v f → Respects es p f
-    fact (is-arc i k) (li, lk, arc) = λ ei ek. rw (same_end i ei) (h.facts (is-arc i k) (drawn i k (arc (live i ei) (live k ek))) ei ek)
+    fact (is_arc i k) (li, lk, arc) = λ ei ek. rw (same_end i ei) (h.facts (is_arc i k) (drawn i k (arc (live i ei) (live k ek))) ei ek)
     fact (is_bound early j z) (l, low) = λ e. omega (whole, low (live j e), h.earliest j e)
     fact (is_bound late j z) (l, low) = λ e.
         omega (whole, low (live j e), h.latest j e, same_end j e, minus (v.row j).latest, minus (end es p j))
-    fact (is-valid j) (l, m) = h.valid j l m
-    fact (is-invalid j) (l, m) = h.invalid j l m
+    fact (is_valid j) (l, m) = h.valid j l m
+    fact (is_invalid j) (l, m) = h.invalid j l m

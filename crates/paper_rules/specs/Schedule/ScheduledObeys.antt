@@ -8,10 +8,10 @@ use Rattle.ground_arithmetic.specs.Packing.{Apart, packing}
 use Rattle.paper_board.specs.Paper.View.{View, Live, Arc, Side, early, late, bound, Beyond}
 use Rattle.paper_rules.specs.Paper.Rules.{energy}
 use Rattle.paper_rules.specs.Inference.Infers.{Pushing, r1, r2, r3, r45, r6, Obeys}
-use Rattle.paper_rules.specs.Inference.Forced.{valid-live}
+use Rattle.paper_rules.specs.Inference.Forced.{valid_live}
 use Rattle.paper_rules.specs.Paper.Entries.{Entries, Admissible}
 use Rattle.paper_rules.specs.Paper.Schedules.{Placing, Schedule}
-use Rattle.paper_rules.specs.Schedule.Scheduled.{scheduled, live-placed, arc-read, arc-show}
+use Rattle.paper_rules.specs.Schedule.Scheduled.{scheduled, live_placed, arc_read, arc_show}
 
 -- Each live job takes time and fills its window, and of any two one has an arc to the other. A job that has an arc to
 -- another ends no later than the other starts.
@@ -44,9 +44,9 @@ module _ (v : View) (line : InLine v) where
       omega (whole, clear s k j lk lj a, line.positive k lk, plus (bound s (v.row k)) (v.row k).length)
 
   -- of two live jobs the first lies beyond the second, unless it is the other way round
-  beyond-unless : (s : Side) (k j : ℕ) → Live v k → Live v j → j ≢ k → (Beyond v s j k → ⊥) → Beyond v s k j
-  beyond-unless early k j lk lj ne other = ⊎_elim (λ a. absurd (other a)) (λ a. a) (line.linked j k lj lk ne)
-  beyond-unless late k j lk lj ne other = ⊎_elim (λ a. a) (λ a. absurd (other a)) (line.linked j k lj lk ne)
+  beyond_unless : (s : Side) (k j : ℕ) → Live v k → Live v j → j ≢ k → (Beyond v s j k → ⊥) → Beyond v s k j
+  beyond_unless early k j lk lj ne other = ⊎_elim (λ a. absurd (other a)) (λ a. a) (line.linked j k lj lk ne)
+  beyond_unless late k j lk lj ne other = ⊎_elim (λ a. a) (λ a. absurd (other a)) (line.linked j k lj lk ne)
 
   -- R4 and R5: jobs beyond j are packed before it
   packed : (s : Side) (j : ℕ) (S : ℕ → Bool) (m : ℤ) → Live v j → Pushing v s j S m
@@ -61,7 +61,7 @@ module _ (v : View) (line : InLine v) where
       length k = (v.row k).length
 
       live : (k : ℕ) → S k ≡ true → Live v k
-      live k e = valid-live v k (p.valid k e)
+      live k e = valid_live v k (p.valid k e)
 
       first : m ≤ℤ start j
       first =
@@ -72,25 +72,25 @@ module _ (v : View) (line : InLine v) where
       apart : Apart v.jobs S start length
       apart i k bi bk ei ek ne h =
           clear s k i (live k ek) (live i ei)
-          (beyond-unless s k i (live k ek) (live i ei) ne λ a. omega (whole, clear s i k (live i ei) (live k ek) a))
+          (beyond_unless s k i (live k ek) (live i ei) ne λ a. omega (whole, clear s i k (live i ei) (live k ek) a))
 
-  in-line-obeys : Obeys v
-  in-line-obeys _ (r1 a b c la vb lc ne ab bc) =
-      let lb = valid-live v b vb in (
+  in_line_obeys : Obeys v
+  in_line_obeys _ (r1 a b c la vb lc ne ab bc) =
+      let lb = valid_live v b vb in (
         la.0,
         lc.0,
-        λ _ _. beyond-unless early a c la lc (λ e. ne (sym e)) λ ca.
+        λ _ _. beyond_unless early a c la lc (λ e. ne (sym e)) λ ca.
             omega (whole, sooner early a b la lb ab, sooner early b c lb lc bc, sooner early c a lc la ca),
       )
-  in-line-obeys _ (r2 a b va lb ab ba) =
-      let la = valid-live v a va in
+  in_line_obeys _ (r2 a b va lb ab ba) =
+      let la = valid_live v a va in
       absurd (omega (whole, sooner early a b la lb ab, sooner early b a lb la ba))
-  in-line-obeys _ (r3 a b la lb ne h) =
+  in_line_obeys _ (r3 a b la lb ne h) =
       let r = v.row a in
       let s = v.row b in (
         lb.0,
         la.0,
-        λ _ _. beyond-unless early b a lb la ne λ ab.
+        λ _ _. beyond_unless early b a lb la ne λ ab.
             omega (
               whole,
               clear early a b la lb ab,
@@ -99,18 +99,18 @@ module _ (v : View) (line : InLine v) where
               plus s.earliest s.length,
             ),
       )
-  in-line-obeys _ (r45 s j S m lj p) = (lj.0, λ _. packed s j S m lj p)
-  in-line-obeys _ (r6 j lj h) = absurd (omega (whole, line.filled j lj))
+  in_line_obeys _ (r45 s j S m lj p) = (lj.0, λ _. packed s j S m lj p)
+  in_line_obeys _ (r6 j lj h) = absurd (omega (whole, line.filled j lj))
 
-pub scheduled-obeys : (es : Entries) (p : Placing) → Admissible es → Schedule es p → Obeys (scheduled es p)
-scheduled-obeys es p ok h = in-line-obeys (scheduled es p) in-line
+pub scheduled_obeys : (es : Entries) (p : Placing) → Admissible es → Schedule es p → Obeys (scheduled es p)
+scheduled_obeys es p ok h = in_line_obeys (scheduled es p) in_line
   where
-    in-line : InLine (scheduled es p)
-    in-line =
+    in_line : InLine (scheduled es p)
+    in_line =
         record {
-          positive = λ j l. let placed = live-placed es p j l in rw placed (ok.rows j l.0 (λ m. refuted (h.invalid j l.0 m) placed)).length.low;
-          filled = λ j l. rw (live-placed es p j l);
-          follows = λ i k li lk a. let (ei, ek, apart) = arc-read es p i k a in rw (ei, ek) apart;
+          positive = λ j l. let placed = live_placed es p j l in rw placed (ok.rows j l.0 (λ m. refuted (h.invalid j l.0 m) placed)).length.low;
+          filled = λ j l. rw (live_placed es p j l);
+          follows = λ i k li lk a. let (ei, ek, apart) = arc_read es p i k a in rw (ei, ek) apart;
           linked = λ i k li lk ne.
-              ⊎_map (arc-show es p i k li lk) (arc-show es p k i lk li) (h.apart i k (live-placed es p i li) (live-placed es p k lk) ne);
+              ⊎_map (arc_show es p i k li lk) (arc_show es p k i lk li) (h.apart i k (live_placed es p i li) (live_placed es p k lk) ne);
         }

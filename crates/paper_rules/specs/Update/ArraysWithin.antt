@@ -2,13 +2,13 @@
 use Rattle.std.specs.Prelude.{◌≡◌, Bool, cond, List, ℕ, ℤ}
 use Rattle.std.proofs.Math.Option.{Option, none, some}
 use Rattle.paper_board.specs.declared.Board.{Board}
-use Rattle.paper_board.specs.Paper.Parts.{ofParts, emptyBooks}
+use Rattle.paper_board.specs.Paper.Parts.{of_parts, empty_books}
 use Rattle.paper_board.specs.Paper.Limits.{Within}
 pub use Rattle.paper_board.specs.Paper.Parts.{filled}
 
 -- a board of n jobs by its arrays
 abbrev pub arrayed : ℕ → List ℤ → List ℤ → List ℤ → List ℕ → List ℕ → List ℕ → Board
-arrayed n lengths earliest latest marks after before = ofParts n lengths earliest latest marks after before emptyBooks
+arrayed n lengths earliest latest marks after before = of_parts n lengths earliest latest marks after before empty_books
 
 -- the arrays are those of a board of n jobs that is within its limits
 pub record ArraysWithin (n : ℕ) (lengths earliest latest : List ℤ) (marks after before : List ℕ) : Type 0 where

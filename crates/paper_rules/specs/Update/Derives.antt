@@ -7,18 +7,18 @@ use Rattle.paper_board.specs.Paper.Facts.{Fact, Holds, AboutJobs}
 use Rattle.paper_board.specs.Paper.Limits.{Within}
 use Rattle.paper_rules.specs.Inference.Infers.{Infers, r1, r2, r3, r45, r6}
 use Rattle.paper_rules.specs.Inference.Forced.{forced}
-use Rattle.paper_rules.specs.Update.Extension.{above-self, Extends}
-use Rattle.paper_rules.specs.Update.ExtendsThen.{onward, extends-then}
-use Rattle.paper_rules.specs.Update.Updates.{update, ◌andThen◌}
+use Rattle.paper_rules.specs.Update.Extension.{above_self, Extends}
+use Rattle.paper_rules.specs.Update.ExtendsThen.{onward, extends_then}
+use Rattle.paper_rules.specs.Update.Updates.{update, ◌and_then◌}
 use Rattle.paper_rules.specs.Update.Updated.{updated}
 
 -- what is inferred is about jobs of the board
-pub infers-known : (v : View) (f : Fact) → Infers v f → AboutJobs v.jobs f
-infers-known v _ (r1 a b c la vb lc ne ab bc) = (la.0, lc.0, ne)
-infers-known v _ (r2 a b va lb ab ba) = lb.0
-infers-known v _ (r3 a b la lb ne h) = (lb.0, la.0, λ e. ne (sym e))
-infers-known v _ (r45 s j S m lj p) = lj.0
-infers-known v _ (r6 j lj h) = lj.0
+pub infers_known : (v : View) (f : Fact) → Infers v f → AboutJobs v.jobs f
+infers_known v _ (r1 a b c la vb lc ne ab bc) = (la.0, lc.0, ne)
+infers_known v _ (r2 a b va lb ab ba) = lb.0
+infers_known v _ (r3 a b la lb ne h) = (lb.0, la.0, λ e. ne (sym e))
+infers_known v _ (r45 s j S m lj p) = lj.0
+infers_known v _ (r6 j lj h) = lj.0
 
 -- no demand
 abbrev Any : View → Type 0
@@ -32,18 +32,18 @@ Derives b = Extends b.jobs Any b
 abbrev pub Derived : Board → Board → Type 0
 Derived b c = Derives b (some c)
 
-pub derived-self : (b : Board) → Within b → Derived b b
-derived-self b h = record { more = above-self b h; meets = tt; least = λ w up _ _. up }
+pub derived_self : (b : Board) → Within b → Derived b b
+derived_self b h = record { more = above_self b h; meets = tt; least = λ w up _ _. up }
 
 -- one run after another
-pub derives-then : (b c : Board) → Derived b c → (o : Option Board) → Derives c o → Derives b o
-derives-then b c = λ x o. onward b.jobs Any Any Any b (λ _ _ _ _. tt) (λ _ _ _. tt) (λ _ _ _ _. (tt, tt)) c o x
+pub derives_then : (b c : Board) → Derived b c → (o : Option Board) → Derives c o → Derives b o
+derives_then b c = λ x o. onward b.jobs Any Any Any b (λ _ _ _ _. tt) (λ _ _ _. tt) (λ _ _ _ _. (tt, tt)) c o x
 
 -- one more inference: it holds in every view above c that obeys the rules
-pub derives-further : (b c : Board) → Derived b c → (f : Fact) → Infers (view c) f → Derives b (update c f)
-unfolding ◌andThen◌
-derives-further b c derived f infers =
-    extends-then b.jobs Any (λ w. Holds w f) Any b
+pub derives_further : (b c : Board) → Derived b c → (f : Fact) → Infers (view c) f → Derives b (update c f)
+unfolding ◌and_then◌
+derives_further b c derived f infers =
+    extends_then b.jobs Any (λ w. Holds w f) Any b
     (λ _ _ _ _. tt)
     (λ _ _ _. tt)
     (λ w up obeys _. (tt, forced (view c) w (derived.least w up obeys tt) obeys f infers))
@@ -52,4 +52,4 @@ derives-further b c derived f infers =
     derived
     λ d x.
     let jobs = derived.more.jobs ∙ sym x.more.jobs in
-    updated d x.more.within f (subst (λ n. AboutJobs n f) jobs (infers-known (view c) f infers))
+    updated d x.more.within f (subst (λ n. AboutJobs n f) jobs (infers_known (view c) f infers))

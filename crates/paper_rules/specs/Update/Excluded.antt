@@ -10,20 +10,20 @@ use Rattle.paper_board.specs.Paper.View.{row_of}
 use Rattle.paper_board.specs.Paper.Limits.{Within}
 use Rattle.paper_rules.specs.Update.Updates.{exclude}
 use Rattle.paper_rules.specs.Update.Strike.{strike}
-use Rattle.paper_rules.specs.Update.StrikeLaws.{strike-one}
+use Rattle.paper_rules.specs.Update.StrikeLaws.{strike_one}
 
 module _ (b : Board) (j : ℕ) where
-  pub exclude-valid : (row_of b j).mark ≡ 1 → exclude b j ≡ none
+  pub exclude_valid : (row_of b j).mark ≡ 1 → exclude b j ≡ none
   unfolding exclude
-  exclude-valid e = rw e
+  exclude_valid e = rw e
 
-  pub exclude-invalid : (row_of b j).mark ≡ 2 → exclude b j ≡ some b
+  pub exclude_invalid : (row_of b j).mark ≡ 2 → exclude b j ≡ some b
   unfolding exclude
-  exclude-invalid e = rw e
+  exclude_invalid e = rw e
 
   -- the set of one job struck out
-  pub exclude-undecided : Within b → (set : ℕ) (c : Board) → j < b.jobs → (row_of b j).mark ≢ 1 → (row_of b j).mark ≢ 2
+  pub exclude_undecided : Within b → (set : ℕ) (c : Board) → j < b.jobs → (row_of b j).mark ≢ 1 → (row_of b j).mark ≢ 2
       → set ≡ with 0 j → c ≡ strike b set → exclude b j ≡ some c
   unfolding exclude
-  exclude-undecided within set c job one two e struck =
-      rw (ne_eqb _ _ one, ne_eqb _ _ two) (ap some (sym (struck ∙ ap (strike b) e ∙ strike-one b within j job)))
+  exclude_undecided within set c job one two e struck =
+      rw (ne_eqb _ _ one, ne_eqb _ _ two) (ap some (sym (struck ∙ ap (strike b) e ∙ strike_one b within j job)))

@@ -7,15 +7,15 @@ use Rattle.paper_board.specs.Paper.View.{View, view}
 use Rattle.paper_rules.specs.Inference.Infers.{Obeys}
 use Rattle.paper_rules.specs.Paper.Entries.{◌⊑◌}
 use Rattle.paper_rules.specs.Order.OrderLaws.{⊑_trans}
-use Rattle.paper_rules.specs.Order.LeastUnique.{alike-boards, equal-boards}
-use Rattle.paper_rules.specs.Update.Updates.{◌andThen◌}
+use Rattle.paper_rules.specs.Order.LeastUnique.{alike_boards, equal_boards}
+use Rattle.paper_rules.specs.Update.Updates.{◌and_then◌}
 use Rattle.paper_rules.specs.Update.Extension.{Extension, Extends}
 
 -- an extension for P is one for Q, where P gives Q, and Q gives P in the views above b that obey the rules
-pub extends-same : (n : ℕ) (P Q : View → Type 0) (b : Board) → ((w : View) → P w → Q w)
+pub extends_same : (n : ℕ) (P Q : View → Type 0) (b : Board) → ((w : View) → P w → Q w)
     → ((w : View) → view b ⊑ w → Obeys w → Q w → P w) → (o : Option Board) → Extends n P b o → Extends n Q b o
-extends-same n P Q b to from none x = λ w up obeys q. x w up obeys (from w up obeys q)
-extends-same n P Q b to from (some c) x =
+extends_same n P Q b to from none x = λ w up obeys q. x w up obeys (from w up obeys q)
+extends_same n P Q b to from (some c) x =
     record { more = x.more; meets = to (view c) x.meets; least = λ w up obeys q. x.least w up obeys (from w up obeys q) }
 
 -- A step that meets P and one from there that meets Q make one that meets R, where P is kept above, P and Q give R, and R
@@ -39,24 +39,24 @@ module _ (n : ℕ) (P Q R : View → Type 0) (b : Board)
         least = λ w up obeys r. let (p, q) = split w up obeys r in y.least w (x.least w up obeys p) obeys q;
       }
 
-  pub extends-then : (o : Option Board) (k : Board → Option Board) → Extends n P b o
+  pub extends_then : (o : Option Board) (k : Board → Option Board) → Extends n P b o
       → ((c : Board) → Extension n P b c → Extends c.jobs Q c (k c)) → Extends n R b (o and_then k)
-  unfolding ◌andThen◌
-  extends-then none k x y = λ w up obeys r. x w up obeys (split w up obeys r).0
-  extends-then (some c) k x y = onward c (k c) x (y c x)
+  unfolding ◌and_then◌
+  extends_then none k x y = λ w up obeys r. x w up obeys (split w up obeys r).0
+  extends_then (some c) k x y = onward c (k c) x (y c x)
 
 -- where P asks that the rules are obeyed, there is one extension
 module _ (n : ℕ) (P : View → Type 0) (b : Board) (obeys : (w : View) → P w → Obeys w) where
-  same-extension : (c d : Board) → Extension n P b c → Extension n P b d → c ≡ d
-  same-extension c d x y =
+  same_extension : (c d : Board) → Extension n P b c → Extension n P b d → c ≡ d
+  same_extension c d x y =
       let below : (c d : Board) → Extension n P b c → Extension n P b d → view c ⊑ view d =
       λ c d x y. x.least (view d) y.more.above (obeys (view d) y.meets) y.meets
       in
-      let alike = alike-boards c d x.more.within y.more.within (below c d x y) (below d c y x) in
-      equal-boards c d x.more.within y.more.within (record { alike = alike; books = x.more.books ∙ sym y.more.books })
+      let alike = alike_boards c d x.more.within y.more.within (below c d x y) (below d c y x) in
+      equal_boards c d x.more.within y.more.within (record { alike = alike; books = x.more.books ∙ sym y.more.books })
 
-  pub one-extension : (o p : Option Board) → Extends n P b o → Extends n P b p → o ≡ p
-  one-extension none none x y = refl
-  one-extension none (some d) x y = absurd (x (view d) y.more.above (obeys (view d) y.meets) y.meets)
-  one-extension (some c) none x y = absurd (y (view c) x.more.above (obeys (view c) x.meets) x.meets)
-  one-extension (some c) (some d) x y = ap some (same-extension c d x y)
+  pub one_extension : (o p : Option Board) → Extends n P b o → Extends n P b p → o ≡ p
+  one_extension none none x y = refl
+  one_extension none (some d) x y = absurd (x (view d) y.more.above (obeys (view d) y.meets) y.meets)
+  one_extension (some c) none x y = absurd (y (view c) x.more.above (obeys (view c) x.meets) x.meets)
+  one_extension (some c) (some d) x y = ap some (same_extension c d x y)

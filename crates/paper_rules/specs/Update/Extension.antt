@@ -18,8 +18,8 @@ pub record Above (n : ℕ) (b c : Board) : Type 0 where
   pub above : view b ⊑ view c
 
 -- a board within its limits is above itself
-pub above-self : (b : Board) → Within b → Above b.jobs b b
-above-self b h =
+pub above_self : (b : Board) → Within b → Above b.jobs b b
+above_self b h =
     record {
       within = h;
       jobs = refl;

@@ -9,18 +9,18 @@ use Rattle.paper_rules.specs.Paper.Entries.{Shown}
 use Rattle.paper_board.specs.BoardTests.Live.{roomy}
 use Rattle.paper_rules.specs.Update.Updates.{raised, marked}
 
-pub raised-mark : (s : Side) (z : ℤ) (r : Row) → (raised s z r).mark ≡ r.mark
-raised-mark early z r = refl
-raised-mark late z r = refl
+pub raised_mark : (s : Side) (z : ℤ) (r : Row) → (raised s z r).mark ≡ r.mark
+raised_mark early z r = refl
+raised_mark late z r = refl
 
-pub raised-bound : (s : Side) (z : ℤ) (r : Row) → z ≤ℤ bound s (raised s z r)
-raised-bound early z r = omega whole
-raised-bound late z r = omega (whole, minus z, minus (neg_ℤ z))
+pub raised_bound : (s : Side) (z : ℤ) (r : Row) → z ≤ℤ bound s (raised s z r)
+raised_bound early z r = omega whole
+raised_bound late z r = omega (whole, minus z, minus (neg_ℤ z))
 
-pub raised-above : (s : Side) (z : ℤ) (r : Row) → bound s r ≤ℤ z → Shown r (raised s z r)
-raised-above early z r h =
+pub raised_above : (s : Side) (z : ℤ) (r : Row) → bound s r ≤ℤ z → Shown r (raised s z r)
+raised_above early z r h =
     record { valid = λ e. e; invalid = λ e. e; length = λ _. refl; earliest = λ _. h; latest = λ _. omega whole }
-raised-above late z r h =
+raised_above late z r h =
     record {
       valid = λ e. e;
       invalid = λ e. e;
@@ -29,10 +29,10 @@ raised-above late z r h =
       latest = λ _. omega (whole, minus z, minus r.latest);
     }
 
-pub raised-least : (s : Side) (z : ℤ) (r t : Row) → Shown r t → (t.mark ≢ 2 → z ≤ℤ bound s t) → Shown (raised s z r) t
-raised-least early z r t up h =
+pub raised_least : (s : Side) (z : ℤ) (r t : Row) → Shown r t → (t.mark ≢ 2 → z ≤ℤ bound s t) → Shown (raised s z r) t
+raised_least early z r t up h =
     record { valid = up.valid; invalid = up.invalid; length = up.length; earliest = h; latest = up.latest }
-raised-least late z r t up h =
+raised_least late z r t up h =
     record {
       valid = up.valid;
       invalid = up.invalid;
@@ -42,30 +42,30 @@ raised-least late z r t up h =
     }
 
 -- the lengths are positive, so a bound that leaves room lies between the old bound and the other side of the window
-pub raised-fits : (s : Side) (z : ℤ) (r : Row) → Fits r → bound s r ≤ℤ z → roomy (raised s z r) ≡ true → Fits (raised s z r)
-raised-fits early z r fits h room =
+pub raised_fits : (s : Side) (z : ℤ) (r : Row) → Fits r → bound s r ≤ℤ z → roomy (raised s z r) ≡ true → Fits (raised s z r)
+raised_fits early z r fits h room =
     record {
       length = fits.length;
       earliest = omega (whole, fits.length.low, fits.earliest.low, fits.latest.high, plus z r.length);
       latest = fits.latest;
     }
-raised-fits late z r fits h room =
+raised_fits late z r fits h room =
     record {
       length = fits.length;
       earliest = fits.earliest;
       latest = omega (whole, fits.length.low, fits.earliest.low, fits.latest.high, plus r.earliest r.length, minus z, minus r.latest);
     }
 
-pub raised-short : (s : Side) (z : ℤ) (r t : Row) → roomy (raised s z r) ≡ false → Shown r t → t.mark ≢ 2 → z ≤ℤ bound s t
+pub raised_short : (s : Side) (z : ℤ) (r t : Row) → roomy (raised s z r) ≡ false → Shown r t → t.mark ≢ 2 → z ≤ℤ bound s t
     → t.latest <ℤ (t.earliest +ℤ t.length)
-raised-short early z r t cramped up l h =
+raised_short early z r t cramped up l h =
     omega (whole, up.latest l, up.length l, plus z r.length, plus t.earliest t.length)
-raised-short late z r t cramped up l h =
+raised_short late z r t cramped up l h =
     omega
     (whole, up.earliest l, up.length l, plus r.earliest r.length, plus t.earliest t.length, minus z, minus t.latest)
 
-pub valid-above : (r : Row) → r.mark ≢ 2 → Shown r (marked 1 r)
-valid-above r m =
+pub valid_above : (r : Row) → r.mark ≢ 2 → Shown r (marked 1 r)
+valid_above r m =
     record {
       valid = λ _. refl;
       invalid = λ e. absurd (m e);
@@ -74,9 +74,9 @@ valid-above r m =
       latest = λ _. omega whole;
     }
 
-pub valid-least : (r t : Row) → Shown r t → t.mark ≡ 1 → Shown (marked 1 r) t
-valid-least r t up e =
+pub valid_least : (r t : Row) → Shown r t → t.mark ≡ 1 → Shown (marked 1 r) t
+valid_least r t up e =
     record { valid = λ _. e; invalid = λ n. absurd (omega arith); length = up.length; earliest = up.earliest; latest = up.latest }
 
-pub marked-fits : (m : ℕ) (r : Row) → Fits r → Fits (marked m r)
-marked-fits m r fits = record { length = fits.length; earliest = fits.earliest; latest = fits.latest }
+pub marked_fits : (m : ℕ) (r : Row) → Fits r → Fits (marked m r)
+marked_fits m r fits = record { length = fits.length; earliest = fits.earliest; latest = fits.latest }

@@ -5,12 +5,12 @@ use Rattle.std.proofs.Math.Option.{Option, none, some}
 use Rattle.std.specs.Int.Signed.{lt_z}
 use Rattle.ground_sets.specs.Bit.{with, without}
 use Rattle.paper_board.specs.declared.Board.{Board}
-use Rattle.paper_board.specs.Paper.Parts.{filled, withJobs}
+use Rattle.paper_board.specs.Paper.Parts.{filled, with_jobs}
 use Rattle.paper_board.specs.Paper.View.{Row, Side, early, late, bound, row_of, view}
-use Rattle.paper_board.specs.Paper.Facts.{Fact, is-arc, is_bound, is-valid, is-invalid}
+use Rattle.paper_board.specs.Paper.Facts.{Fact, is_arc, is_bound, is_valid, is_invalid}
 use Rattle.paper_board.specs.Paper.Tests.{live}
 use Rattle.paper_board.specs.BoardTests.Live.{roomy}
-use Rattle.paper_board.specs.Paper.Limits.{jobLimit, zeroRow}
+use Rattle.paper_board.specs.Paper.Limits.{job_limit, zero_row}
 
 -- row j stored anew
 abbrev pub store : Board → ℕ → Row → Board
@@ -32,12 +32,12 @@ link b i k =
 
 -- the words without job j, and no arcs of its own
 abbrev pub isolate : List ℕ → ℕ → List ℕ
-isolate words j = set (map (λ w. without jobLimit w j) words) j 0
+isolate words j = set (map (λ w. without job_limit w j) words) j 0
 
 -- "An invalid job holds length 0, E 0, D 0 and no arcs"
 abbrev pub invalidate : Board → ℕ → Board
 invalidate b j =
-    let c = store b j (zeroRow 2) in
+    let c = store b j (zero_row 2) in
     filled c c.lengths c.earliest c.latest c.marks (isolate b.after j) (isolate b.before j)
 
 -- a row with its bound on one side raised to z
@@ -57,18 +57,18 @@ unfoldable pub tighten : Board → ℕ → Row → Option Board
 tighten b j r = cond (roomy r) (some (store b j r)) (exclude b j)
 
 unfoldable pub update : Board → Fact → Option Board
-update b (is-arc i k) = some (cond (live (view b) i && live (view b) k) (link b i k) b)
+update b (is_arc i k) = some (cond (live (view b) i && live (view b) k) (link b i k) b)
 update b (is_bound s j z) =
     cond (live (view b) j && lt_z (bound s (row_of b j)) z) (tighten b j (raised s z (row_of b j))) (some b)
-update b (is-valid j) = cond (eqb (row_of b j).mark 2) none (some (store b j (marked 1 (row_of b j))))
-update b (is-invalid j) = exclude b j
+update b (is_valid j) = cond (eqb (row_of b j).mark 2) none (some (store b j (marked 1 (row_of b j))))
+update b (is_invalid j) = exclude b j
 
 -- a job added: its row at the first place without a job
 abbrev pub append : Board → Row → Board
-append b r = withJobs (store b b.jobs r) (suc b.jobs)
+append b r = with_jobs (store b b.jobs r) (suc b.jobs)
 
 -- one step and then another, where the first finds a board
-infixl 20 ◌andThen◌
-unfoldable pub ◌andThen◌ : Option Board → (Board → Option Board) → Option Board
+infixl 20 ◌and_then◌
+unfoldable pub ◌and_then◌ : Option Board → (Board → Option Board) → Option Board
 none and_then k = none
 some c and_then k = k c

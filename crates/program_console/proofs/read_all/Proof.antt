@@ -12,8 +12,8 @@ invariant-loop fd buffer₀ count₀ buffer count = (count ≤ length buffer) ×
 abbrev decreases-loop : tie.decreases-loop
 decreases-loop fd buffer₀ count₀ buffer count = length buffer - count
 
-pub read-all-spec : {M : Type 1} → statement M
-read-all-spec =
+pub read_all_spec : {M : Type 1} → statement M
+read_all_spec =
     tie.close
     (tie.spec
     invariant-loop

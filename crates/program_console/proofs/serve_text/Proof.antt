@@ -5,9 +5,9 @@ use mathlib.Core.Path.{◌≡◌, sym, ◌∙◌}
 use native.Mathlib.Omega.{arith}
 use lib.ListN.{length, take}
 use borrow.Author.Rules.{rules}
-use Rattle.text_decimals.specs.Rest.{rest-length}
-use Rattle.text_pieces.specs.Pieces.{pieces-pass}
-use Rattle.program_console.specs.Buffered.{Buffered, first_piece, next-piece, all-answered}
+use Rattle.text_decimals.specs.Rest.{rest_length}
+use Rattle.text_pieces.specs.Pieces.{pieces_pass}
+use Rattle.program_console.specs.Buffered.{Buffered, first_piece, next_piece, all_answered}
 use Rattle.program_console.proofs.serve_text.Statement.{statement}
 use Rattle.program_console.proofs.serve_text.Tie as tie
 
@@ -28,10 +28,10 @@ loop-holds : tie.Need-loop-init invariant-loop decreases-loop
 loop-holds c = (c.before.before.before.start.auto.1.0 ∙ sym c.before.before.before.before.before.large-buffer.ensures, c.before.before.before.start.ensures.written, first_piece c.before.before.before.start.ensures)
 
 returns : tie.Need-returns invariant-loop decreases-loop
-returns c = λ e. all-answered c.before.before.before.before.before.loop.invariant.2 c.if2.true
+returns c = λ e. all_answered c.before.before.before.before.before.loop.invariant.2 c.if2.true
 
 next-requires : tie.Need-next-requires invariant-loop decreases-loop
-next-requires c κs = (pieces-pass c.before.before.before.before.before.before.loop.invariant.2.given, omega (arith, c.before.before.before.before.before.before.loop.invariant.0))
+next-requires c κs = (pieces_pass c.before.before.before.before.before.before.loop.invariant.2.given, omega (arith, c.before.before.before.before.before.before.loop.invariant.0))
 
 abbrev turn : tie.After-next invariant-loop decreases-loop → tie.At-loop invariant-loop decreases-loop
 turn c = c.before.before.before.before.before.before.before
@@ -41,7 +41,7 @@ loop-less c =
     let piece = c.before.before.before in
     omega (
       arith,
-      rest-length (turn piece).loop.rest.now piece.next.result.read,
+      rest_length (turn piece).loop.rest.now piece.next.result.read,
       piece.next.ensures.read,
       piece.next.ensures.progress (omega (arith, piece.before.before.if2.false)),
     )
@@ -50,13 +50,13 @@ loop-again : tie.Need-loop-preserved invariant-loop decreases-loop
 loop-again c =
     let piece = c.before.before.before in
     let (size, _, buffered) = (turn piece).loop.invariant in
-    (piece.next.auto.1.1.0 ∙ size, piece.next.ensures.written, next-piece buffered piece.next.ensures)
+    (piece.next.auto.1.1.0 ∙ size, piece.next.ensures.written, next_piece buffered piece.next.ensures)
 
 returns-2 : tie.Need-returns-2 invariant-loop decreases-loop
 returns-2 c = λ e. absurd (false≢true e)
 
-pub serve-text-spec : {M : Type 1} → statement M
-serve-text-spec =
+pub serve_text_spec : {M : Type 1} → statement M
+serve_text_spec =
     tie.close
     (tie.spec
     invariant-loop

@@ -10,8 +10,8 @@ invariant-loop first second job₀ job = job ≤ 4
 abbrev decreases-loop : tie.decreases-loop
 decreases-loop first second job₀ job = 4 - job
 
-pub rows-spec : {M : Type 1} → statement M
-rows-spec =
+pub rows_spec : {M : Type 1} → statement M
+rows_spec =
     tie.close
     (tie.spec
     invariant-loop

@@ -4,8 +4,8 @@ use native.Mathlib.Omega.{arith}
 use borrow.Author.Rules.{rules}
 use borrow.Fn.Kinds.{In}
 use borrow.Fn.PlainCycle.{Measures, is, falls, and}
-use Rattle.text_decimals.specs.Digits.{length-small, length_more}
-use Rattle.text_decimals.specs.DigitsWritten.{only-digit, last-digit}
+use Rattle.text_decimals.specs.Digits.{length_small, length_more}
+use Rattle.text_decimals.specs.DigitsWritten.{only_digit, last_digit}
 use Rattle.text_decimals.proofs.digit.Reads as digit-reads
 use Rattle.text_decimals.proofs.put_byte.Reads as put-byte-reads
 use Rattle.text_decimals.proofs.put_digits.Reads as put-digits
@@ -14,14 +14,14 @@ use Rattle.text_decimals.proofs.+put_digits.Lts-put_digits as put-digits-lts
 use Rattle.text_decimals.proofs.+put_digits.{statement}
 use Rattle.text_decimals.proofs.+put_digits.Tie.{close}
 
-abbrev μ-put-digits : Measures 1 put-digits-kinds.ps ℕ
-μ-put-digits κs a = a.1.1.0
+abbrev μ_put_digits : Measures 1 put-digits-kinds.ps ℕ
+μ_put_digits κs a = a.1.1.0
 
-abbrev put-digits-at : ℕ → In 1 put-digits-kinds.ps
-put-digits-at t = and 1 put-digits-kinds.ps (is 1 put-digits-kinds.ps μ-put-digits t) put-digits.Pre
+abbrev put_digits_at : ℕ → In 1 put-digits-kinds.ps
+put_digits_at t = and 1 put-digits-kinds.ps (is 1 put-digits-kinds.ps μ_put_digits t) put-digits.Pre
 
-abbrev put-digits-below : ℕ → In 1 put-digits-kinds.ps
-put-digits-below t = and 1 put-digits-kinds.ps (falls 1 put-digits-kinds.ps ◌<◌ μ-put-digits t) put-digits.Pre
+abbrev put_digits_below : ℕ → In 1 put-digits-kinds.ps
+put_digits_below t = and 1 put-digits-kinds.ps (falls 1 put-digits-kinds.ps ◌<◌ μ_put_digits t) put-digits.Pre
 
 abbrev claims : ℕ → put-digits-lts.Claims
 claims t = (
@@ -29,22 +29,22 @@ claims t = (
   digit-reads.Learnt,
   put-byte-reads.Asked,
   put-byte-reads.Learnt,
-  put-digits-below t,
+  put_digits_below t,
   put-digits.Post,
 )
 
-pub +put-digits-spec : {M : Type 1} → statement M
-+put-digits-spec =
-    close μ-put-digits λ t.
-    put-digits-lts.spec (claims t) (put-digits-at t) put-digits.Post
+pub +put_digits_spec : {M : Type 1} → statement M
++put_digits_spec =
+    close μ_put_digits λ t.
+    put-digits-lts.spec (claims t) (put_digits_at t) put-digits.Post
     -- one digit
     (λ c κs. search rules)
-    (λ c κs. omega (arith, length-small c.before.before.before.before.args.n (omega arith)))
+    (λ c κs. omega (arith, length_small c.before.before.before.before.args.n (omega arith)))
     (λ c. search rules)
-    (λ c. search only-digit)
+    (λ c. search only_digit)
     -- a tenth of the number, and the last digit
     (λ c κs. omega (arith, length_more c.before.before.before.args.n (omega arith)))
     (λ c κs. search rules)
     (λ c κs. omega (arith, length_more c.before.before.before.before.before.before.before.before.args.n (omega arith)))
     (λ c. search rules)
-    (λ c. search last-digit)
+    (λ c. search last_digit)

@@ -2,7 +2,7 @@
 use mathlib.Core.Path.{refl, ◌∙◌}
 use borrow.Author.Rules.{rules}
 use Rattle.text_forms.specs.Paper.Lines.{lines_of}
-use Rattle.text_forms.specs.FormRead.{form-read}
+use Rattle.text_forms.specs.FormRead.{form_read}
 use Rattle.text_forms.proofs.read.Statement.{statement}
 use Rattle.text_forms.proofs.read.Tie as tie
 
@@ -12,7 +12,7 @@ first-requires c κs = refl
 
 returns : tie.Need-returns
 unfolding lines_of
-returns c = c.form_of.ensures ∙ form-read _ _ c.before.before.first.ensures
+returns c = c.form_of.ensures ∙ form_read _ _ c.before.before.first.ensures
 
 pub read_spec : {M : Type 1} → statement M
 read_spec = tie.close (tie.spec first-requires (λ c κs. search rules) returns)

@@ -5,8 +5,8 @@ use mathlib.Core.Path.{◌≡◌, sym, ◌∙◌}
 use native.Mathlib.Omega.{arith}
 use borrow.Author.Rules.{rules}
 use borrow.Author.Tests.{not-true, not-false}
-use Rattle.text_decimals.specs.Bytes.{isDigit}
-use Rattle.text_numerals.specs.Prefix.{prefix-goes-on, prefix-ends, prefix-over}
+use Rattle.text_decimals.specs.Bytes.{is_digit}
+use Rattle.text_numerals.specs.Prefix.{prefix_goes_on, prefix_ends, prefix_over}
 use Rattle.text_numerals.specs.Numerals.{digits}
 use Rattle.text_numerals.proofs.digits.Statement.{statement}
 use Rattle.text_numerals.proofs.digits.Tie as tie
@@ -20,23 +20,23 @@ decreases-loop text count₀ count = length text - count
 returns : tie.Need-returns invariant-loop decreases-loop
 returns c =
     let now = c.before.before.before.before in
-    let ended = prefix-ends isDigit now.before.before.args.text.now _ c.before.before.before.loop-test.true (sym c.before.is_digit.ensures ∙ not-true _ c.if1.true) in
+    let ended = prefix_ends is_digit now.before.before.args.text.now _ c.before.before.before.loop-test.true (sym c.before.is_digit.ensures ∙ not-true _ c.if1.true) in
     omega (arith, ended, now.loop.invariant.1)
 
 loop-again : tie.Need-loop-preserved invariant-loop decreases-loop
 loop-again c =
     let now = c.before.before.before.before in
-    let more = prefix-goes-on isDigit now.before.before.args.text.now _ c.before.before.before.loop-test.true (sym c.before.is_digit.ensures ∙ not-false _ c.if1.false) in
+    let more = prefix_goes_on is_digit now.before.before.args.text.now _ c.before.before.before.loop-test.true (sym c.before.is_digit.ensures ∙ not-false _ c.if1.false) in
     omega (arith, more, now.loop.invariant.1)
 
 returns-2 : tie.Need-returns-2 invariant-loop decreases-loop
 returns-2 c =
     let now = c.before in
-    let ended = prefix-over isDigit now.before.before.args.text.now _ c.loop-test.false in
+    let ended = prefix_over is_digit now.before.before.args.text.now _ c.loop-test.false in
     omega (arith, ended, now.loop.invariant.1)
 
-pub digits-spec : {M : Type 1} → statement M
-digits-spec =
+pub digits_spec : {M : Type 1} → statement M
+digits_spec =
     tie.close
     (tie.spec
     invariant-loop

@@ -3,8 +3,8 @@ use lib.ListN.{length}
 use native.Mathlib.Omega.{arith}
 use borrow.Author.Rules.{rules}
 use borrow.Author.Tests.{le-leb, lt-leb, ne_eqb}
-use Rattle.text_decimals.specs.Bytes.{isDigit}
-use Rattle.text_numerals.specs.Prefix.{prefix-within}
+use Rattle.text_decimals.specs.Bytes.{is_digit}
+use Rattle.text_numerals.specs.Prefix.{prefix_within}
 use Rattle.text_numerals.specs.DigitsRead.{digit_at}
 use Rattle.text_numerals.specs.Numerals.{digits}
 use Rattle.text_numerals.proofs.is_natural.Statement.{statement}
@@ -16,7 +16,7 @@ returns-2 c =
     rw (le-leb 1 (length (digits t)) (omega arith), lt-leb (length (digits t)) 7 (omega arith))
 
 shared-slice-read-result : tie.Need-shared-slice-read-result
-shared-slice-read-result c = omega (arith, prefix-within isDigit c.before.before.before.before.args.text.now)
+shared-slice-read-result c = omega (arith, prefix_within is_digit c.before.before.before.before.args.text.now)
 
 returns-4 : tie.Need-returns-4
 returns-4 c =
@@ -24,6 +24,6 @@ returns-4 c =
     let first = (digit_at t 0 (omega arith)).same in
     rw (le-leb 1 (length (digits t)) (omega arith), le-leb (length (digits t)) 7 (omega arith), ne_eqb (length (digits t)) 1 (omega arith), first)
 
-pub is-natural-spec : {M : Type 1} → statement M
-is-natural-spec =
+pub is_natural_spec : {M : Type 1} → statement M
+is_natural_spec =
     tie.close (tie.spec (λ c. search rules) returns-2 (λ c. search rules) shared-slice-read-result returns-4)

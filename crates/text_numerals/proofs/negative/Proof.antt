@@ -5,9 +5,9 @@ use mathlib.Core.List.{List}
 use mathlib.Core.Path.{◌≡◌, sym, ◌∙◌}
 use native.Mathlib.Omega.{arith}
 use borrow.Author.Rules.{rules}
-use Rattle.text_numerals.specs.NaturalRead.{natural-found}
-use Rattle.text_numerals.specs.Negative.{few_bytes, difference-fits, zero-is-none, other-is-negative}
-use Rattle.text_numerals.specs.Numerals.{naturalAt}
+use Rattle.text_numerals.specs.NaturalRead.{natural_found}
+use Rattle.text_numerals.specs.Negative.{few_bytes, difference_fits, zero_is_none, other_is_negative}
+use Rattle.text_numerals.specs.Numerals.{natural_at}
 use Rattle.text_numerals.specs.declared.Numeral.TheVariants.{Number}
 use Rattle.text_numerals.proofs.negative.Statement.{statement}
 use Rattle.text_numerals.proofs.negative.Tie as tie
@@ -21,7 +21,7 @@ bytes c = c.length.given.0.0
 abbrev value : tie.After-length → ℤ
 value c = c.length.given.0.1.0
 
-found : (c : tie.After-length) → naturalAt (text c) ≡ Number (bytes c) (value c)
+found : (c : tie.After-length) → natural_at (text c) ≡ Number (bytes c) (value c)
 found c = sym c.before.before.natural.ensures ∙ c.length.given.1
 
 returns : tie.Need-returns
@@ -30,25 +30,25 @@ returns c = rw (sym c.before.before.natural.ensures ∙ c.enum_told.given.1)
 returns-2 : tie.Need-returns-2
 returns-2 c =
     let d = c.before.before in
-    rw (found d) (zero-is-none (text d) (bytes d) (value d) (natural-found _ _ _ (found d)) c.if1.true)
+    rw (found d) (zero_is_none (text d) (bytes d) (value d) (natural_found _ _ _ (found d)) c.if1.true)
 
 add-t6 : tie.Need-overflow-add-t6
 add-t6 c =
     let d = c.before.before in
-    record { fits = omega (arith, few_bytes (text d) (bytes d) (value d) (natural-found _ _ _ (found d))) }
+    record { fits = omega (arith, few_bytes (text d) (bytes d) (value d) (natural_found _ _ _ (found d))) }
 
 sub-t7 : tie.Need-overflow-sub-t7
 sub-t7 c =
     let d = c.before.before in
-    difference-fits (text d) (bytes d) (value d) (natural-found _ _ _ (found d))
+    difference_fits (text d) (bytes d) (value d) (natural_found _ _ _ (found d))
 
 returns-3 : tie.Need-returns-3
 returns-3 c =
     let d = c.before.before in
-    rw (found d) (other-is-negative (text d) (bytes d) (value d) (natural-found _ _ _ (found d)) c.if1.false)
+    rw (found d) (other_is_negative (text d) (bytes d) (value d) (natural_found _ _ _ (found d)) c.if1.false)
 
-pub negative-spec : {M : Type 1} → statement M
-negative-spec =
+pub negative_spec : {M : Type 1} → statement M
+negative_spec =
     tie.close
     (tie.spec
     (λ c κs. search rules)

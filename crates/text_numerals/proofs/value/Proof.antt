@@ -8,12 +8,12 @@ use native.Mathlib.Omega.{arith}
 use mir.Syntax.{w32}
 use mir.ValLaws.{to_z_pos}
 use borrow.Author.Rules.{rules}
-use Rattle.text_decimals.specs.Bytes.{isDigit}
-use Rattle.text_numerals.specs.Prefix.{prefix-within}
+use Rattle.text_decimals.specs.Bytes.{is_digit}
+use Rattle.text_numerals.specs.Prefix.{prefix_within}
 use Rattle.text_numerals.specs.DigitsRead.{DigitAt, digit_at}
-use Rattle.text_numerals.specs.NaturalRead.{natural-parts}
+use Rattle.text_numerals.specs.NaturalRead.{natural_parts}
 use Rattle.text_numerals.specs.Numerals.{digits, value}
-use Rattle.text_numerals.specs.Value.{value-short, value-go-on}
+use Rattle.text_numerals.specs.Value.{value_short, value_go_on}
 use Rattle.text_numerals.proofs.value.Statement.{statement}
 use Rattle.text_numerals.proofs.value.Tie as tie
 
@@ -32,14 +32,14 @@ digit c = digit_at c.before.before.args.text.now c.before.loop.k (passed c)
 short : (c : tie.At-loop invariant-loop decreases-loop) → c.loop.sum < 10000000
 short c =
     let t = c.before.args.text.now in
-    let few = (natural-parts (digits t) c.before.requires.1).few in
-    omega (arith, value-short t c.loop.k (omega arith) (omega arith), c.loop.invariant.1)
+    let few = (natural_parts (digits t) c.before.requires.1).few in
+    omega (arith, value_short t c.loop.k (omega arith) (omega arith), c.loop.invariant.1)
 
 mul-sum : tie.Need-overflow-mul-sum invariant-loop decreases-loop
 mul-sum c = record { fits = omega (arith, short c.before) }
 
 shared-slice-read-sum : tie.Need-shared-slice-read-sum invariant-loop decreases-loop
-shared-slice-read-sum c = omega (arith, prefix-within isDigit c.before.before.before.args.text.now, passed c.before)
+shared-slice-read-sum c = omega (arith, prefix_within is_digit c.before.before.before.args.text.now, passed c.before)
 
 sub-sum : tie.Need-overflow-sub-sum invariant-loop decreases-loop
 sub-sum c = (digit c.before).low
@@ -53,7 +53,7 @@ add-sum c = record { fits = omega (arith, (digit c.before).high, short c.before.
 loop-again : tie.Need-loop-preserved invariant-loop decreases-loop
 loop-again c =
     let now = c.before.before in
-    let more = value-go-on now.before.args.text.now now.loop.k (passed c.before) in
+    let more = value_go_on now.before.args.text.now now.loop.k (passed c.before) in
     omega (arith, more, now.loop.invariant.1)
 
 cast-result : tie.Need-overflow-cast-result invariant-loop decreases-loop

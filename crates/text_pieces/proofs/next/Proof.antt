@@ -5,11 +5,11 @@ use native.Mathlib.Nat.{sub-zero}
 use native.Mathlib.Omega.{arith}
 use lib.ListN.{length}
 use borrow.Author.Rules.{rules}
-use Rattle.text_decimals.specs.Rest.{rest-length}
-use Rattle.text_replies.specs.Room.{answerRoom}
-use Rattle.text_numerals.specs.Prefix.{prefix-within}
-use Rattle.text_forms.specs.LineLaws.{inLine, lineLength}
-use Rattle.text_pieces.specs.PieceState.{PieceState, piece-start, piece-line, full, done, last}
+use Rattle.text_decimals.specs.Rest.{rest_length}
+use Rattle.text_replies.specs.Room.{answer_room}
+use Rattle.text_numerals.specs.Prefix.{prefix_within}
+use Rattle.text_forms.specs.LineLaws.{in_line, line_length}
+use Rattle.text_pieces.specs.PieceState.{PieceState, piece_start, piece_line, full, done, last}
 use Rattle.text_forms.specs.Paper.Lines.{lines_of}
 use Rattle.text_answers.specs.Paper.Text.{serve}
 use Rattle.text_pieces.proofs.next.Statement.{statement}
@@ -23,7 +23,7 @@ abbrev decreases-loop : tie.decreases-loop
 decreases-loop text out₀ board₀ rest₀ at₀ out board rest at = length rest
 
 -- room for an answer
-space : (c : tie.Else1 invariant-loop decreases-loop) → c.before.before.loop.at + answerRoom ≤ length c.before.before.loop.out
+space : (c : tie.Else1 invariant-loop decreases-loop) → c.before.before.loop.at + answer_room ≤ length c.before.before.loop.out
 space c = omega (arith, c.if1.false, c.before.before.loop.invariant.1.written)
 
 -- places that the answers look back to: where the loop begins, and the line that is answered
@@ -35,14 +35,14 @@ line c = c.before.before.before.before
 
 -- the line has its line feed
 ended : (c : tie.Else2 invariant-loop decreases-loop)
-    → (c.before.line-length.result ≡ lineLength (head c.before).loop.rest.now)
-    × (lineLength (head c.before).loop.rest.now < length (head c.before).loop.rest.now)
+    → (c.before.line-length.result ≡ line_length (head c.before).loop.rest.now)
+    × (line_length (head c.before).loop.rest.now < length (head c.before).loop.rest.now)
 ended c =
     let is = c.before.line-length.ensures in
-    (is, omega (arith, is, c.if2.false, prefix-within inLine (head c.before).loop.rest.now))
+    (is, omega (arith, is, c.if2.false, prefix_within in_line (head c.before).loop.rest.now))
 
 loop-holds : tie.Need-loop-init invariant-loop decreases-loop
-loop-holds c = (refl, piece-start _ _ _ c.before.before.requires.0)
+loop-holds c = (refl, piece_start _ _ _ c.before.before.requires.0)
 
 sub-if1 : tie.Need-overflow-sub-if1 invariant-loop decreases-loop
 sub-if1 c = c.before.loop.invariant.1.written
@@ -98,7 +98,7 @@ part-rest-end c = omega (arith, ended (line c.before.before.before))
 loop-less : tie.Need-loop-smaller invariant-loop decreases-loop
 loop-less c =
     let read = line c.before.before.before.before in
-    omega (arith, ended read, rest-length (head read.before).loop.rest.now (read.before.line-length.result + 1))
+    omega (arith, ended read, rest_length (head read.before).loop.rest.now (read.before.line-length.result + 1))
 
 loop-again : tie.Need-loop-preserved invariant-loop decreases-loop
 loop-again c =
@@ -108,7 +108,7 @@ loop-again c =
     let (is, more) = ended read in (
       a.carry-out.auto.1.1.0 ∙ at.loop.inv.0,
       rw is
-          (piece-line _ _ _ _ _ _ at.loop.inv.1 _ _ _ (space read.before.before) a.carry-out.auto.1.1.0 more (rw (a.before.before.read.ensures, sub-zero, is) at a.carry-out.ensures)),
+          (piece_line _ _ _ _ _ _ at.loop.inv.1 _ _ _ (space read.before.before) a.carry-out.auto.1.1.0 more (rw (a.before.before.read.ensures, sub-zero, is) at a.carry-out.ensures)),
     )
 
 same-length-3 : tie.Need-same-length-3 invariant-loop decreases-loop
@@ -117,8 +117,8 @@ same-length-3 c = c.before.loop.invariant.0
 returns-3 : tie.Need-returns-3 invariant-loop decreases-loop
 returns-3 c = done _ _ _ _ _ _ c.before.loop.invariant.1 (omega (arith, c.loop-test.false))
 
-pub next-spec : {M : Type 1} → statement M
-next-spec =
+pub next_spec : {M : Type 1} → statement M
+next_spec =
     tie.close
     (tie.spec
     invariant-loop

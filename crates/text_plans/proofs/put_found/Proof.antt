@@ -2,16 +2,16 @@
 use native.Mathlib.Nat.{le_refl}
 use native.Mathlib.Omega.{arith}
 use borrow.Author.Rules.{rules}
-use Rattle.text_decimals.specs.Written.{append-written}
+use Rattle.text_decimals.specs.Written.{append_written}
 use Rattle.text_plans.proofs.put_found.Statement.{statement}
 use Rattle.text_plans.proofs.put_found.Tie as tie
 
 returns : tie.Need-returns
 returns c =
-    append-written (append-written c.before.before.before.before.before.before.before.before.before.before.before.before.before.print.ensures c.before.before.before.before.before.before.before.before.before.put-placements.ensures (le_refl _)) c.before.before.print2.ensures (omega arith)
+    append_written (append_written c.before.before.before.before.before.before.before.before.before.before.before.before.before.print.ensures c.before.before.before.before.before.before.before.before.before.put-placements.ensures (le_refl _)) c.before.before.print2.ensures (omega arith)
 
-pub put-found-spec : {M : Type 1} → statement M
-put-found-spec =
+pub put_found_spec : {M : Type 1} → statement M
+put_found_spec =
     tie.close
     (tie.spec
     (λ c. search rules)

@@ -1,21 +1,21 @@
 -- `text_replies::put_answer` meets its contract. Assumes nothing.
 use native.Mathlib.Omega.{arith}
 use borrow.Author.Rules.{rules}
-use Rattle.text_decimals.specs.Written.{weaken-written}
+use Rattle.text_decimals.specs.Written.{weaken_written}
 use Rattle.text_replies.proofs.put_answer.Statement.{statement}
 use Rattle.text_replies.proofs.put_answer.Tie as tie
 
 returns : tie.Need-returns
-returns c = rw c.before.before.before.before.before.before.before.before.answer.given.1 (weaken-written c.before.before.print.ensures (omega arith))
+returns c = rw c.before.before.before.before.before.before.before.before.answer.given.1 (weaken_written c.before.before.print.ensures (omega arith))
 
 returns-2 : tie.Need-returns-2
-returns-2 c = rw c.before.before.before.before.before.before.before.enum_told.given.1 (weaken-written c.before.before.print2.ensures (omega arith))
+returns-2 c = rw c.before.before.before.before.before.before.before.enum_told.given.1 (weaken_written c.before.before.print2.ensures (omega arith))
 
 returns-3 : tie.Need-returns-3
 returns-3 c = rw c.before.before.before.before.before.answer2.given.1 c.before.before.put-refusal.ensures
 
-pub put-answer-spec : {M : Type 1} → statement M
-put-answer-spec =
+pub put_answer_spec : {M : Type 1} → statement M
+put_answer_spec =
     tie.close
     (tie.spec
     (λ c. search rules)

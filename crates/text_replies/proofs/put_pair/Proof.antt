@@ -11,8 +11,8 @@ returns c = rw c.before.before.before.before.before.before.before.before.pair.gi
 returns-2 : tie.Need-returns-2
 returns-2 c = rw c.before.before.before.before.before.pair2.given.1 c.before.before.put-refusal.ensures
 
-pub put-pair-spec : {M : Type 1} → statement M
-put-pair-spec =
+pub put_pair_spec : {M : Type 1} → statement M
+put_pair_spec =
     tie.close
     (tie.spec
     (λ c. search rules)

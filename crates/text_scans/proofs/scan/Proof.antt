@@ -10,11 +10,11 @@ use mir.ValLaws.{to_z-of_z}
 use borrow.Author.Rules.{rules}
 use borrow.Author.Tests.{not-true, not-false}
 use Rattle.text_numerals.specs.NumberRead.{ReadsNumber, read_number}
-use Rattle.text_numerals.specs.NaturalRead.{short-fits}
+use Rattle.text_numerals.specs.NaturalRead.{short_fits}
 use Rattle.text_numerals.specs.Numerals.{number_at}
 use Rattle.text_numerals.specs.declared.Numeral.TheVariants.{Number}
-use Rattle.text_scans.specs.ScanState.{ScanState, at-start, place-left, number-taken, number-missing, byte-taken, byte-missing, at-end, as_parts}
-use Rattle.text_scans.specs.Scan.{startsWith, starts-some}
+use Rattle.text_scans.specs.ScanState.{ScanState, at_start, place_left, number_taken, number_missing, byte_taken, byte_missing, at_end, as_parts}
+use Rattle.text_scans.specs.Scan.{starts_with, starts_some}
 use Rattle.text_scans.proofs.scan.Statement.{statement}
 use Rattle.text_scans.proofs.scan.Tie as tie
 
@@ -41,27 +41,27 @@ tested c = c.before.before.before.before
 
 same_byte : (c : tie.Else2 invariant-loop decreases-loop)
     → let l = (tested c.before).before.loop in
-    startsWith (get_or l.f.now 0 0) l.t.now ≡ true
+    starts_with (get_or l.f.now 0 0) l.t.now ≡ true
 same_byte c = sym c.before.starts_with.ensures ∙ not-false _ c.if2.false
 
 byte_left : (c : tie.Else2 invariant-loop decreases-loop) → 0 < length (tested c.before).before.loop.t.now
 byte_left c =
     let l = (tested c.before).before.loop in
-    starts-some (get_or l.f.now 0 0) l.t.now (same_byte c)
+    starts_some (get_or l.f.now 0 0) l.t.now (same_byte c)
 
 loop-holds : tie.Need-loop-init invariant-loop decreases-loop
-loop-holds c = at-start _ _ c.before.before.requires
+loop-holds c = at_start _ _ c.before.before.requires
 
 returns : tie.Need-returns invariant-loop decreases-loop
 returns c =
     let h = c.before.before.before.before.before.before in
     let none = sym c.before.before.before.number.ensures ∙ c.before.enum_told.given.1 in
-    c.unmatched.ensures ∙ number-missing _ _ _ _ _ _ h.before.loop.invariant h.loop-test.true c.before.before.before.before.if1.true none
+    c.unmatched.ensures ∙ number_missing _ _ _ _ _ _ h.before.loop.invariant h.loop-test.true c.before.before.before.before.if1.true none
 
 array-set-from-numbers : tie.Need-array-set-from-numbers invariant-loop decreases-loop
 array-set-from-numbers c =
     let h = head c.before in
-    place-left _ _ _ _ _ _ h.before.loop.inv h.loop-test.taken c.before.before.before.before.if1.true
+    place_left _ _ _ _ _ _ h.before.loop.inv h.loop-test.taken c.before.before.before.before.if1.true
 
 sub-t : tie.Need-overflow-sub-t invariant-loop decreases-loop
 sub-t c = (reads c.before).within
@@ -74,15 +74,15 @@ loop-again c =
     let d = c.before.before.before in
     let h = head d in
     let l = h.before.loop in
-    rw (to_z-of_z w32 (value d) (short-fits (value d) (reads d).short))
+    rw (to_z-of_z w32 (value d) (short_fits (value d) (reads d).short))
     (as_parts _ _ l.f.now l.t.now _ _ 1 d.length.given.0.0
-    (number-taken _ _ _ _ _ _ l.inv h.loop-test.taken d.before.before.before.if1.true d.length.given.0.0 (value d) (found d)))
+    (number_taken _ _ _ _ _ _ l.inv h.loop-test.taken d.before.before.before.if1.true d.length.given.0.0 (value d) (found d)))
 
 returns-2 : tie.Need-returns-2 invariant-loop decreases-loop
 returns-2 c =
     let h = tested c.before.before in
     c.unmatched2.ensures
-    ∙ byte-missing _ _ _ _ _ _ h.before.loop.inv h.loop-test.taken c.before.before.before.before.if1.false (sym c.before.before.starts_with.ensures ∙ not-true _ c.before.if2.true)
+    ∙ byte_missing _ _ _ _ _ _ h.before.loop.inv h.loop-test.taken c.before.before.before.before.if1.false (sym c.before.before.starts_with.ensures ∙ not-true _ c.before.if2.true)
 
 sub-t-2 : tie.Need-overflow-sub-t-2 invariant-loop decreases-loop
 sub-t-2 c = byte_left c
@@ -95,15 +95,15 @@ loop-again-2 c =
     let h = tested c.before.before.before in
     let l = h.before.loop in
     as_parts _ _ l.f.now l.t.now _ _ 1 1
-    (byte-taken _ _ _ _ _ _ l.inv h.loop-test.taken c.before.before.before.before.before.if1.false (same_byte c.before.before))
+    (byte_taken _ _ _ _ _ _ l.inv h.loop-test.taken c.before.before.before.before.before.if1.false (same_byte c.before.before))
 
 returns-3 : tie.Need-returns-3 invariant-loop decreases-loop
 returns-3 c =
     let l = c.before.before.loop in
-    c.whole.ensures ∙ at-end _ _ _ _ _ _ l.invariant (omega (arith, c.before.loop-test.false))
+    c.whole.ensures ∙ at_end _ _ _ _ _ _ l.invariant (omega (arith, c.before.loop-test.false))
 
-pub scan-spec : {M : Type 1} → statement M
-scan-spec =
+pub scan_spec : {M : Type 1} → statement M
+scan_spec =
     tie.close
     (tie.spec
     invariant-loop

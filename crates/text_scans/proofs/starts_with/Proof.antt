@@ -12,5 +12,5 @@ returns c = sym (starts_none c.before.args.byte c.before.args.text.now c.if1.tru
 returns-2 : tie.Need-returns-2
 returns-2 c = sym (starts_first c.before.before.args.byte c.before.before.args.text.now (omega arith))
 
-pub starts-with-spec : {M : Type 1} → statement M
-starts-with-spec = tie.close (tie.spec returns (λ c. search rules) returns-2)
+pub starts_with_spec : {M : Type 1} → statement M
+starts_with_spec = tie.close (tie.spec returns (λ c. search rules) returns-2)

@@ -12,5 +12,5 @@ returns c = let more = c.before.if1.true in rw (ne_eqb (length c.before.before.b
 returns-2 : tie.Need-returns-2
 returns-2 c = let ended = c.if1.false in rw (eq-eqb (length c.before.before.args.text.now) 0 (omega (arith, ended)))
 
-pub whole-spec : {M : Type 1} → statement M
-whole-spec = tie.close (tie.spec (λ c κs. search rules) returns returns-2)
+pub whole_spec : {M : Type 1} → statement M
+whole_spec = tie.close (tie.spec (λ c κs. search rules) returns returns-2)

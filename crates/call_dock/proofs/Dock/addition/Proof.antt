@@ -11,5 +11,5 @@ returns c =
     let f = c.before.before.ranges in
     c.enter.ensures ∙ ap (paper.enter _) (simp (to_z-of_z, f.length, f.earliest, f.latest, f.mark) at c.before.addition.ensures)
 
-pub addition-spec : {M : Type 1} → statement M
-addition-spec = tie.close (tie.spec (λ c κs. search rules) (λ c κs. search rules) returns)
+pub addition_spec : {M : Type 1} → statement M
+addition_spec = tie.close (tie.spec (λ c κs. search rules) (λ c κs. search rules) returns)

@@ -11,5 +11,5 @@ returns c =
     let f = c.before.before.ranges in
     c.enter.ensures ∙ ap (paper.enter _) (simp (to_z-of_z, f.from, f.to) at c.before.arc.ensures)
 
-pub arc-spec : {M : Type 1} → statement M
-arc-spec = tie.close (tie.spec (λ c κs. search rules) (λ c κs. search rules) returns)
+pub arc_spec : {M : Type 1} → statement M
+arc_spec = tie.close (tie.spec (λ c κs. search rules) (λ c κs. search rules) returns)

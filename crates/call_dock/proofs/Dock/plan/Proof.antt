@@ -18,5 +18,5 @@ returns-2 : tie.Need-returns-2
 unfolding plan
 returns-2 c = rw (sym c.before.before.passes.ensures ∙ c.before.if1.false, plan) c.unplanned.ensures
 
-pub plan-spec : {M : Type 1} → statement M
-plan-spec = tie.close (tie.spec (λ c κs. search rules) plan-requires (λ c κs. search rules) returns returns-2)
+pub plan_spec : {M : Type 1} → statement M
+plan_spec = tie.close (tie.spec (λ c κs. search rules) plan-requires (λ c κs. search rules) returns returns-2)

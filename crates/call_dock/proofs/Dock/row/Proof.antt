@@ -18,5 +18,5 @@ returns-2 : tie.Need-returns-2
 unfolding row
 returns-2 c = rw (sym c.before.passes.ensures ∙ c.if1.false, row)
 
-pub row-spec : {M : Type 1} → statement M
-row-spec = tie.close (tie.spec (λ c κs. search rules) row-requires returns returns-2)
+pub row_spec : {M : Type 1} → statement M
+row_spec = tie.close (tie.spec (λ c κs. search rules) row-requires returns returns-2)

@@ -6,20 +6,20 @@ use Rattle.call_in_place.proofs.Called.{holds}
 use Rattle.call_in_place.proofs.Carried.{numbers}
 use Rattle.call_in_place.proofs.Looked.{law}
 use Rattle.call_in_place.proofs.Plain.{struct}
-use Rattle.call_reply_numbers.specs.ReplyNumbers.{rowReplyNumbers}
+use Rattle.call_reply_numbers.specs.ReplyNumbers.{row_reply_numbers}
 use Rattle.call_exports.proofs.Passing.{asked}
 use Rattle.call_reply_numbers.specs.contracts.RowReplyNumbers as T
 use Rattle.call_reply_numbers.proofs.RowReplyNumbers.TheLaws as T'
 use Rattle.call_exports_by_value.proofs.unchecked.row.Met.{met}
 use Rattle.call_exports_by_value.proofs.unchecked.row.Symbol as by_value
-use Rattle.call_exports.specs.contracts.unchecked.bayboard_unchecked_row as row
+use Rattle.call_exports.specs.contracts.unchecked.bayboard_unchecked_row
 use Rattle.call_exports.proofs.unchecked.bayboard_unchecked_row.Code as code
 use Rattle.call_exports.specs.contracts.unchecked.bayboard_unchecked_row.Key.{name}
 use Rattle.call_exports.proofs.unchecked.bayboard_unchecked_row.Statement.{statement}
 
-pub bayboard-unchecked-row-spec : {M : Type 1} → statement M
+pub bayboard_unchecked_row_spec : {M : Type 1} → statement M
 unfolding code.routine
-bayboard-unchecked-row-spec 𝓤 𝓛 𝓜 𝓡 =
-    law (numbers 1) (struct T.the_type T'.the_laws T'.the_plain T'.the_copy) (asked (numbers 1) true) (λ b z r. r ≡ rowReplyNumbers (looking.row b z.0)) 𝓛 𝓜 𝓡
+bayboard_unchecked_row_spec 𝓤 𝓛 𝓜 𝓡 =
+    law (numbers 1) (struct T.the_type T'.the_laws T'.the_plain T'.the_copy) (asked (numbers 1) true) (λ b z r. r ≡ row_reply_numbers (looking.row b z.0)) 𝓛 𝓜 𝓡
     (λ κs a. (row.clauses 𝓛 𝓜.mem 𝓡.run κs a).ensures) (λ κs a r e. holds 𝓤 e)
     code.env name by_value.name by_value.routine (code.unfolded 𝓤 𝓛.H 𝓜 𝓡) code.calls-call-exports-by-value::unchecked::row (met 𝓤 𝓛 𝓜 𝓡)

@@ -16,5 +16,5 @@ returns c =
     let fits : SFits w32 end.result = search rules in
     simp (to_z-of_z, fits, latest) (rw (simp (to_z-of_z, earliest, start.ranges.length) at end.ensures))
 
-pub holds-spec : {M : Type 1} → statement M
-holds-spec = tie.close (tie.spec (λ c κs. search rules) returns)
+pub holds_spec : {M : Type 1} → statement M
+holds_spec = tie.close (tie.spec (λ c κs. search rules) returns)

@@ -16,5 +16,5 @@ returns-2 c =
     let f = c.before.ranges in
     simp (to_z-of_z, f.low, f.z, simp (to_z-of_z, f.low, f.z) at c.if1.false)
 
-pub between-spec : {M : Type 1} → statement M
-between-spec = tie.close (tie.spec returns returns-2)
+pub between_spec : {M : Type 1} → statement M
+between_spec = tie.close (tie.spec returns returns-2)

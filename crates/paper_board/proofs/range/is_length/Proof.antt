@@ -7,5 +7,5 @@ use Rattle.paper_board.proofs.range.is_length.Tie as tie
 returns : tie.Need-returns
 returns c = simp (to_z-of_z, c.before.ranges.z) at c.between.ensures
 
-pub is-length-spec : {M : Type 1} → statement M
-is-length-spec = tie.close (tie.spec (λ c κs. search rules) returns)
+pub is_length_spec : {M : Type 1} → statement M
+is_length_spec = tie.close (tie.spec (λ c κs. search rules) returns)

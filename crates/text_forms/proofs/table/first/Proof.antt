@@ -5,11 +5,11 @@ use mathlib.Core.Path.{◌≡◌}
 use native.Mathlib.Nat.{sub-zero}
 use native.Mathlib.Omega.{arith}
 use borrow.Author.Rules.{rules}
-use Rattle.text_decimals.specs.Rest.{rest-length}
+use Rattle.text_decimals.specs.Rest.{rest_length}
 use Rattle.text_formats.specs.Format as formats
 use Rattle.text_scans.specs.Scan.{scanned}
-use Rattle.text_forms.specs.LineLaws.{lineLength}
-use Rattle.text_forms.specs.FormTableLaws.{Scanning, First, first-line, scanning-start, none_left, found_here, found-later}
+use Rattle.text_forms.specs.LineLaws.{line_length}
+use Rattle.text_forms.specs.FormTableLaws.{Scanning, First, first_line, scanning_start, none_left, found_here, found_later}
 use Rattle.text_forms.proofs.table.first.Statement.{statement}
 use Rattle.text_forms.proofs.table.first.Tie as tie
 
@@ -21,7 +21,7 @@ decreases-loop table text rest₀ index₀ rest index = length rest
 
 -- the line at hand
 line : (c : tie.In-loop invariant-loop decreases-loop) → First c.before.loop.rest.now
-line c = first-line c.before.loop.rest.now c.loop-test.true c.before.loop.invariant.scans
+line c = first_line c.before.loop.rest.now c.loop-test.true c.before.loop.invariant.scans
 
 -- it is as long as the code says
 within : (c : tie.After-line-length invariant-loop decreases-loop) → c.line-length.result < length c.before.before.loop.rest.now
@@ -29,11 +29,11 @@ within c = omega (arith, c.line-length.ensures, (line c.before).within)
 
 scanned-line : (c : tie.After-scan invariant-loop decreases-loop)
     → let left = c.before.before.before.before.loop.rest.now in
-    c.scan.result ≡ scanned (formats.scan (take (lineLength left) left) c.before.before.before.before.before.before.before.args.text.now)
+    c.scan.result ≡ scanned (formats.scan (take (line_length left) left) c.before.before.before.before.before.before.before.args.text.now)
 scanned-line c = rw (sub-zero, c.before.before.line-length.ensures) at c.scan.ensures
 
 loop-holds : tie.Need-loop-init invariant-loop decreases-loop
-loop-holds c = scanning-start _ _ c.before.before.requires
+loop-holds c = scanning_start _ _ c.before.before.requires
 
 part-scan-end : tie.Need-slice-bounds-scan-end invariant-loop decreases-loop
 part-scan-end c = omega (arith, within c)
@@ -55,13 +55,13 @@ sub-rest c = omega (arith, within c.before.before.before)
 loop-less : tie.Need-loop-smaller invariant-loop decreases-loop
 loop-less c =
     let n = c.before.before.before.before in
-    omega (arith, within n, rest-length n.before.before.loop.rest.now (n.line-length.result + 1))
+    omega (arith, within n, rest_length n.before.before.loop.rest.now (n.line-length.result + 1))
 
 loop-again : tie.Need-loop-preserved invariant-loop decreases-loop
 loop-again c =
     let at = c.before.before.before.before.before in
     rw c.before.before.before.before.line-length.ensures
-    (found-later _ _ _ _ at.before.loop.invariant (line at) _ (scanned-line c.before.before) c.before.if1.false)
+    (found_later _ _ _ _ at.before.loop.invariant (line at) _ (scanned-line c.before.before) c.before.if1.false)
 
 returns-2 : tie.Need-returns-2 invariant-loop decreases-loop
 returns-2 c = none_left _ _ _ _ c.before.loop.invariant (omega (arith, c.loop-test.false))
