@@ -137,8 +137,8 @@ module _ (b : Board) (h : Within b) where
         unfolding stack
         longer = rw (last_job, same_stack depth (omega arith))
 
-        in_time : in_time (view b) (stack (at jobs) depth) j ≡ true
-        in_time = (and_parts (ready (view b) (order b) (stack (at jobs) depth) j) (in_time (view b) (stack (at jobs) depth) j) places).1
+        placed_in_time : in_time (view b) (stack (at jobs) depth) j ≡ true
+        placed_in_time = (and_parts (ready (view b) (order b) (stack (at jobs) depth) j) (in_time (view b) (stack (at jobs) depth) j) places).1
 
         stored : Placements b jobs' lefts' (set frees depth free) (suc depth)
         stored d less = go (ℕ_discrete d depth)
@@ -154,7 +154,7 @@ module _ (b : Board) (h : Within b) where
                   same_stack depth (omega arith),
                   get_or-set_same frees depth free (pos 0) (omega (arith, room, s.frees-shape)),
                 )
-                (record { job = due; untried = later; dock = s.dock; ends = in_time })
+                (record { job = due; untried = later; dock = s.dock; ends = placed_in_time })
             go (no ne) =
                 let before : d < depth = omega arith in
                 rw (
@@ -177,7 +177,7 @@ module _ (b : Board) (h : Within b) where
             (least_first b ps s.untried taken) places in
             let wait : WaitingWord b w' (j ∷ ps) = waiting_placed b h w j ps s.waiting due in
             let counted : waiting_count b (j ∷ ps) ≡ n = omega (arith, count_placed b j ps due, count) in
-            let dock = free_after b h j ps free s.dock in_time in
+            let dock = free_after b h j ps free s.dock placed_in_time in
             let deeper : depth + 1 ≡ suc depth = omega arith in
             rw deeper
             record {

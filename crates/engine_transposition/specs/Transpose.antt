@@ -9,7 +9,7 @@ use native.Mathlib.Omega.{arith}
 use Rattle.std.specs.Int.Bits.{bit_and, bit_xor}
 use borrow.Author.Tests.{eq-eqb, ne_eqb}
 use Rattle.ground_sets.specs.Bit.{bit, width, intersection}
-use Rattle.ground_sets.specs.BitLaws.{bit_xor, bit_intersection, bit_shift, bit_left, bit_left_low, bit_kept}
+use Rattle.ground_sets.specs.BitLaws.{bit_of_xor, bit_intersection, bit_shift, bit_left, bit_left_low, bit_kept}
 use Rattle.ground_arithmetic.specs.Bools.{refuted, is_false, by_test}
 use Rattle.paper_board.specs.Paper.Tests.{implies}
 use Rattle.paper_board.specs.BoardTests.WithinLimits.{all}
@@ -68,11 +68,11 @@ exchanged false b false = refl
 module _ (low high shift mask : ℕ) where
   masked : (a b k : ℕ) → bit (bit_and mask (bit_xor a b)) k ≡ (bit mask k && xor (bit a k) (bit b k))
   unfolding intersection
-  masked a b k = bit_intersection mask (bit_xor a b) k ∙ ap (λ (t : Bool). bit mask k && t) (bit_xor a b k)
+  masked a b k = bit_intersection mask (bit_xor a b) k ∙ ap (λ (t : Bool). bit mask k && t) (bit_of_xor a b k)
 
   pub bit_upper : Upper shift mask low high (bit_xor high (bit_and mask (bit_xor high (low / 2 ^ shift))))
   bit_upper k l =
-      bit_xor high (bit_and mask (bit_xor high (low / 2 ^ shift))) k
+      bit_of_xor high (bit_and mask (bit_xor high (low / 2 ^ shift))) k
       ∙ ap (xor (bit high k)) (masked high (low / 2 ^ shift) k)
       ∙ exchanged (bit high k) (bit (low / 2 ^ shift) k) (bit mask k)
       ∙ ap (λ (t : Bool). cond (bit mask k) t (bit high k)) (bit_shift low shift k)
@@ -86,13 +86,13 @@ module _ (low high shift mask : ℕ) where
   -- below the shift nothing moves
   unmoved : (k : ℕ) → k < width → k < shift → bit lowered k ≡ bit low k
   unmoved k w l =
-      bit_xor low (moved * 2 ^ shift % 2 ^ width) k
+      bit_of_xor low (moved * 2 ^ shift % 2 ^ width) k
       ∙ ap (xor (bit low k)) (bit_kept width (moved * 2 ^ shift) k w ∙ bit_left_low moved shift k l)
       ∙ exchanged (bit low k) true false
 
   moved_up : (k : ℕ) → shift + k < width → bit lowered (shift + k) ≡ cond (bit mask k) (bit high k) (bit low (shift + k))
   moved_up k w =
-      bit_xor low (moved * 2 ^ shift % 2 ^ width) (shift + k)
+      bit_of_xor low (moved * 2 ^ shift % 2 ^ width) (shift + k)
       ∙ ap (xor (bit low (shift + k)))
       (bit_kept width (moved * 2 ^ shift) (shift + k) w ∙ bit_left moved shift k ∙ masked (low / 2 ^ shift) high k
       ∙ ap (λ (t : Bool). bit mask k && xor t (bit high k)) (bit_shift low shift k))

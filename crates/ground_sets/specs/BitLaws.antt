@@ -126,9 +126,9 @@ pub bit_intersection : (a b k : ℕ) → bit (intersection a b) k ≡ (bit a k &
 unfolding intersection
 bit_intersection = bit_op bit_and ◌&&◌ and_shr and_mod refl refl refl refl
 
-pub bit_xor : (a b k : ℕ) → bit (bit_xor a b) k ≡ xor (bit a k) (bit b k)
+pub bit_of_xor : (a b k : ℕ) → bit (bit_xor a b) k ≡ xor (bit a k) (bit b k)
 unfolding xor
-bit_xor = bit_op bit_xor xor xor_shr xor_mod refl refl refl refl
+bit_of_xor = bit_op bit_xor xor xor_shr xor_mod refl refl refl refl
 
 bit_complement : (n b k : ℕ) → b < 2 ^ n → k < n → bit (2 ^ n - 1 - b) k ≡ not (bit b k)
 bit_complement zero b k h l = absurd (omega arith)

@@ -48,8 +48,8 @@ pub record AdditionNumbers (n : ℕ) (l e d m : ℤ) : Type 0 where
 unbroken : {t : Bool} {P : Type 0} → Decides t P → not t ≡ false → P
 unbroken {t} d e = d.yes (not-false t e)
 
-is_job : (n : ℕ) (z : ℤ) → is_job n z ≡ true → IsJob n z
-is_job n z t =
+is_job_known : (n : ℕ) (z : ℤ) → is_job n z ≡ true → IsJob n z
+is_job_known n z t =
     let (a, b) = and_parts (le_z (pos 0) z) (lt_z z (pos n)) t in
     let low : pos 0 ≤ℤ z = omega whole in
     record { low = low; high = omega (whole, none_below z low) }
@@ -64,7 +64,7 @@ window e d cs g =
 
 -- line 2, and those after it
 job : (n : ℕ) (j : ℤ) (cs : List Check) → first_refusal (job_check n j ∷ cs) ≡ none → IsJob n j × (first_refusal cs ≡ none)
-job n j cs g = let (known, g1) = passed _ _ g in (is_job n j (not-false _ known), g1)
+job n j cs g = let (known, g1) = passed _ _ g in (is_job_known n j (not-false _ known), g1)
 
 pub job_numbers : (n : ℕ) (j : ℤ) → first_refusal (job_check n j ∷ []) ≡ none → IsJob n j
 job_numbers n j g = (job n j [] g).0
@@ -74,8 +74,8 @@ pair_numbers n a b g =
     let (jobs, g1) = passed _ _ g in
     let (same, g2) = passed _ _ g1 in
     let (ta, tb) = and_parts (is_job n a) (is_job n b) (not-false _ jobs) in
-    let first = is_job n a ta in
-    let second = is_job n b tb in
+    let first = is_job_known n a ta in
+    let second = is_job_known n b tb in
     record { first = first; second = second; different = λ e. refuted same (omega (whole, none_below a first.low, none_below b second.low)) }
 
 pub mark_numbers : (n : ℕ) (j m : ℤ) → first_refusal (checks n (other (mark j m))) ≡ none → MarkNumbers n j m

@@ -192,12 +192,12 @@ abbrev pub plan_ready : List ExampleLine
 plan_ready = enters (job 10 0 100) ∷ enters (job 10 0 15) ∷ pair_is 0 1 2 ∷ plan_finds 3 3 ((0, pos 10) ∷ (1, pos 0) ∷ []) ∷ plan_spends 2 ∷ []
 
 -- three jobs of 10 minutes in 25: the board accepts each, and the tries find none
-abbrev pub plan_none : List ExampleLine
-plan_none =
+abbrev pub plan_none_found : List ExampleLine
+plan_none_found =
     enters (job 10 0 25) ∷ enters (job 10 0 25) ∷ enters (job 10 0 25) ∷ plan_fails 15 15 ∷ plan_fails 1000000 15 ∷ plan_spends 14 ∷ []
 
 abbrev pub table : List (List ExampleLine)
-table = M1 ∷ M2 ∷ M3 ∷ M4 ∷ M5 ∷ M6 ∷ M7 ∷ M8 ∷ M9 ∷ M10 ∷ M11 ∷ M12 ∷ whole_case ∷ cuts_and_marks ∷ plans ∷ plan_m6 ∷ plan_ready ∷ plan_none ∷ []
+table = M1 ∷ M2 ∷ M3 ∷ M4 ∷ M5 ∷ M6 ∷ M7 ∷ M8 ∷ M9 ∷ M10 ∷ M11 ∷ M12 ∷ whole_case ∷ cuts_and_marks ∷ plans ∷ plan_m6 ∷ plan_ready ∷ plan_none_found ∷ []
 
 -- every line of every example is true
 pub examples_hold : all_true table ≡ true

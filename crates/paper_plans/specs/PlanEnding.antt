@@ -60,14 +60,14 @@ module _ (v : View) (limits : Limited v) (T : ℕ) (ps : List ℕ) (e : tries v 
       omega (arith, valid_yes v k (sym (all k) ∙ a), limits.jobs)
 
 -- the plan handed back, a word and a list of starts, is the list of placed jobs
-planned_within : (v : View) → Limited v → (budget : ℕ) (o : Ending) → tries v (valid_jobs v) ≡ o
+planned_within_replied : (v : View) → Limited v → (budget : ℕ) (o : Ending) → tries v (valid_jobs v) ≡ o
     → plan_reply_of (planned_within v budget o) ≡ reply_within v budget o
-planned_within v limits budget (found t ps) e = go (leb t budget)
+planned_within_replied v limits budget (found t ps) e = go (leb t budget)
   where
     go : (b : Bool) → plan_reply_of (cond b (with_plan v (Answers.Found t) ps) (unplanned (Answers.Spent budget))) ≡ cond b (plan_found t (plan_of v ps)) (plan_spent budget)
     go true = ap (plan_found t) (sym (plan_placing v (Answers.Found t) ps (small v limits t ps e)))
     go false = refl
-planned_within v limits budget (none t) e = go (leb t budget)
+planned_within_replied v limits budget (none t) e = go (leb t budget)
   where
     go : (b : Bool) → plan_reply_of (cond b (unplanned (Answers.None t)) (unplanned (Answers.Spent budget))) ≡ cond b (plan_none t) (plan_spent budget)
     go true = refl
@@ -77,7 +77,7 @@ pub plan_ending : (b : Board) → passes b ≡ true → (z : ℤ) → IsBudget z
     → plan_reply_of (plan b z) ≡ reply_within (view b) (number z) (tries (view b) (valid_jobs (view b)))
 plan_ending b p z h =
     ap plan_reply_of (plan_tries b z p ((decides_between (pos 0) budget_limit z).show h))
-    ∙ planned_within (view b) (passes_within b p).limits (number z) (tries (view b) (valid_jobs (view b))) refl
+    ∙ planned_within_replied (view b) (passes_within b p).limits (number z) (tries (view b) (valid_jobs (view b))) refl
 
 module _ (es : Entries) (b : Board) (least : Least es b) where
   limits : Limited (view b)

@@ -52,15 +52,15 @@ module _ (v : View) (order : List ℕ) (all : (k : ℕ) → among order k ≡ va
   end_latest = each_placed (λ k z. (z +ℤ L v k) ≤ℤ D v k) λ ps j t. omega (whole, t.in_time)
 
   -- no job starts before those placed earlier have ended
-  start_after : (ps : List ℕ) → Reachable v order ps → (j k : ℕ) → among ps k ≡ true → (start_in v ps k +ℤ L v k) ≤ℤ start_after v ps j
+  start_after_ends : (ps : List ℕ) → Reachable v order ps → (j k : ℕ) → among ps k ≡ true → (start_in v ps k +ℤ L v k) ≤ℤ start_after v ps j
   unfolding start_after
-  start_after [] r j k a = absurd (refuted (none_among k) a)
-  start_after (i ∷ ps) (t, r) j k a =
+  start_after_ends [] r j k a = absurd (refuted (none_among k) a)
+  start_after_ends (i ∷ ps) (t, r) j k a =
       omega (
         whole,
         last_and_before v (λ k z. (z +ℤ L v k) ≤ℤ (start_after v ps i +ℤ L v i)) i ps
             (omega whole)
-            (λ k a. omega (whole, start_after ps r i k a, member_takes i t.member, plus (start_after v ps i) (L v i)))
+            (λ k a. omega (whole, start_after_ends ps r i k a, member_takes i t.member, plus (start_after v ps i) (L v i)))
             k a,
         greater_right (E v j) (start_after v ps i +ℤ L v i),
       )
@@ -71,7 +71,7 @@ module _ (v : View) (order : List ℕ) (all : (k : ℕ) → among order k ≡ va
     older k a d = refuted t.unplaced (rw d a)
 
     before_last : (k : ℕ) → among ps k ≡ true → (start_in v (j ∷ ps) k +ℤ L v k) ≤ℤ start_in v (j ∷ ps) j
-    before_last k a = rw (start_first v j ps, start_rest v j ps k (older k a)) (start_after ps r j k a)
+    before_last k a = rw (start_first v j ps, start_rest v j ps k (older k a)) (start_after_ends ps r j k a)
 
   apart : (ps : List ℕ) → Reachable v order ps → (i k : ℕ) → among ps i ≡ true → among ps k ≡ true → i ≢ k
       → ((start_in v ps i +ℤ L v i) ≤ℤ start_in v ps k) ⊎ ((start_in v ps k +ℤ L v k) ≤ℤ start_in v ps i)
