@@ -1,4 +1,6 @@
 // The program `bayboard`: a text on standard input, its answers on standard output.
+#![tactic(auto)]
+
 use libc::STDIN_FILENO;
 
 fn main() {

@@ -1,4 +1,6 @@
 // How an entry call answers: accepted, or refused, and then the board as it was but for the tally.
+#![tactic(auto)]
+
 ghost use Rattle.std.specs.Prelude.{◌≡◌, ◌+◌, min};
 ghost use Rattle.paper_board.specs.Paper.Limits.{tally_limit};
 ghost use Rattle.paper_entries.specs.Paper.Enter as paper;

@@ -1,4 +1,6 @@
 // The attempt of an entry: what it states is put on a board's arrays, and the board that shows it is closed, all in place.
+#![tactic(auto)]
+
 ghost use Rattle.paper_rules.specs.Update.ArraysWithin.{ArraysWithin};
 ghost use Rattle.call_statements.specs.Stated.{Storable};
 ghost use Rattle.call_attempts.specs.Attempts.{Attempts};

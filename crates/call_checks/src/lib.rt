@@ -1,4 +1,6 @@
 // "Refusals by the gate": the lines of the table, the checks of a job and of a pair, and the planner's 9.
+#![tactic(auto)]
+
 ghost use Rattle.std.specs.Prelude.{◌≡◌, ◌&&◌, List, [], ◌∷◌, pos, ◌≤ℤ◌};
 ghost use Rattle.ground_arithmetic.specs.Linear.{eq_z};
 ghost use Rattle.paper_entries.specs.Paper.Entry as entry;
@@ -10,7 +12,7 @@ use paper_board::Refusal;
 use paper_board::range::between;
 
 // What the checks say of a call: they let it pass, or the refusal of the first that doesn't.
-#[derive(Drop)]
+#[derive(Clone, Copy)]
 pub enum Checked {
     Passed,
     Refused(Refusal),

@@ -1,4 +1,6 @@
 // A dock with its board, and the calls that the paper names: the board goes in and comes back with the answer.
+#![tactic(auto)]
+
 ghost use Rattle.std.specs.Prelude.{◌≡◌};
 ghost use Rattle.paper_closure.specs.Passes as check;
 ghost use Rattle.paper_entries.specs.Paper.Entry as entry;
@@ -12,7 +14,7 @@ use paper_board::{Board, Refusal};
 use paper_entries::{Entered, Entry, PairAnswer, RowAnswer};
 use paper_plans::{PlanAnswer, Planned};
 
-#[derive(Drop)]
+#[derive(Clone, Copy)]
 pub struct Dock {
     pub board: Board,
 }

@@ -1,5 +1,7 @@
 // An entry call on a board that has passed check 0, in three parts: the checks of the table, the attempt, and what is concluded from it.
 // Who holds such a board pays for no second check.
+#![tactic(auto)]
+
 ghost use Rattle.std.specs.Prelude.{◌≡◌, true};
 ghost use Rattle.paper_rules.specs.Update.Updates.{◌and_then◌};
 ghost use Rattle.paper_closure.specs.Passes.{passes};

@@ -1,4 +1,6 @@
 // The checks 1 to 7 of the table, as far as each sort of entry has them.
+#![tactic(auto)]
+
 ghost use Rattle.std.specs.Prelude.{◌≡◌, ◌&&◌, List, ◌∷◌};
 ghost use Rattle.paper_board.specs.Paper.Tests as tests;
 ghost use Rattle.paper_entries.specs.Paper.Entry as entry;

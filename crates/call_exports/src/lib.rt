@@ -1,5 +1,7 @@
 // The calls for a host in another language that keeps the board: they alter it where it is kept, or look at it there, and their replies are
 // structs of numbers. Any board may be handed in; check 0 is among their checks.
+#![tactic(auto)]
+
 ghost use Rattle.std.specs.Prelude.{◌≡◌, true};
 ghost use Rattle.paper_board.specs.Paper.Limits.{empty_board};
 ghost use Rattle.paper_board.specs.Paper.Parts.{empty_books};

@@ -1,5 +1,7 @@
 // The calls by value, with replies in numbers but for the entries; check 0 is among their checks, unless an entry's board is known
 // to pass it.
+#![tactic(auto)]
+
 ghost use Rattle.std.specs.Prelude.{◌≡◌, true};
 ghost use Rattle.paper_closure.specs.Passes as check;
 ghost use Rattle.paper_entries.specs.Paper.Enter as paper;

@@ -1,5 +1,7 @@
 // The host's own board: the entry calls alter it where it is kept, and the reading calls look at it there, with the same
 // answers as the calls by value.
+#![tactic(auto)]
+
 ghost use Rattle.std.specs.Prelude.{◌≡◌};
 ghost use Rattle.paper_entries.specs.Paper.Entry as entry;
 ghost use Rattle.paper_entries.specs.Paper.Enter as paper;

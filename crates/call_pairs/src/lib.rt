@@ -1,4 +1,6 @@
 // "Pair of A, B: 0 no arc, 1 A to B, 2 B to A, 3 both; and the gap": on a board that has passed check 0.
+#![tactic(auto)]
+
 ghost use Rattle.std.specs.Prelude.{◌≡◌, true, cond, not, ◌&&◌, ◌+◌, ◌<◌, eqb, ltb, ◌-ℤ◌};
 ghost use Rattle.paper_board.specs.Paper.Limits.{Within, job_limit};
 ghost use Rattle.paper_board.specs.Paper.View.{row_of};

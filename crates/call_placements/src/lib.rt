@@ -1,4 +1,6 @@
 // What a planner's try asks of a job, the starts of the jobs placed, in their order, and the planner's answers.
+#![tactic(auto)]
+
 ghost use Rattle.std.specs.Prelude.{◌≡◌, ◌&&◌, ◌≤◌, eqb};
 ghost use Rattle.std.specs.Int.Signed.{le_z};
 ghost use Rattle.ground_sets.specs.Bit.{intersection};

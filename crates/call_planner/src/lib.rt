@@ -1,4 +1,6 @@
 // "Planner": the tries over the valid jobs in ascending number, on a board that has passed check 0.
+#![tactic(auto)]
+
 ghost use Rattle.std.specs.Prelude.{◌≡◌, true};
 ghost use Rattle.paper_board.specs.Paper.Limits.{Within};
 ghost use Rattle.paper_board.specs.Paper.View.{view};

@@ -1,4 +1,6 @@
 // What is stated, put on a board's arrays in place: the board that shows it, nothing inferred yet.
+#![tactic(auto)]
+
 ghost use Rattle.std.specs.Prelude.{◌≡◌, true, [], ◌∷◌, ◌≤◌};
 ghost use Rattle.std.proofs.Math.Option.{some};
 ghost use Rattle.paper_board.specs.declared.Board as boards;

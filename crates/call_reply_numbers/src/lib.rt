@@ -1,4 +1,6 @@
 // The answers as structs of numbers, since an enum can't be exported; and the answers by value made into them.
+#![tactic(auto)]
+
 ghost use Rattle.std.specs.Prelude.{◌≡◌};
 ghost use Rattle.call_reply_numbers.specs.ReplyNumbers as said;
 
@@ -8,7 +10,7 @@ use paper_plans::{PlanAnswer, Planned};
 
 // To an entry. Accepted: the number of the job added, or 0 where nothing was added. Otherwise the refusal's number.
 #[repr(C)]
-#[derive(Drop)]
+#[derive(Clone, Copy)]
 pub struct ReplyNumbers {
     pub accepted: bool,
     pub number: u64,
@@ -16,7 +18,7 @@ pub struct ReplyNumbers {
 
 // To a row: where it is not accepted, the refusal's number, and 0 in the rest.
 #[repr(C)]
-#[derive(Drop)]
+#[derive(Clone, Copy)]
 pub struct RowReplyNumbers {
     pub accepted: bool,
     pub refusal: u32,
@@ -29,7 +31,7 @@ pub struct RowReplyNumbers {
 
 // To a pair: where it is not accepted, the refusal's number, and 0 in the rest.
 #[repr(C)]
-#[derive(Drop)]
+#[derive(Clone, Copy)]
 pub struct PairReplyNumbers {
     pub accepted: bool,
     pub refusal: u32,
@@ -40,7 +42,7 @@ pub struct PairReplyNumbers {
 // To a plan: found (0), none (1) or spent (2) with the number of tries, or refused (3) with the refusal's number. The placed jobs
 // are a word, bit k for job k; their starts are in the places of the jobs.
 #[repr(C)]
-#[derive(Drop)]
+#[derive(Clone, Copy)]
 pub struct PlanReplyNumbers {
     pub ending: u8,
     pub number: u32,

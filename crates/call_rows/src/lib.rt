@@ -1,4 +1,6 @@
 // "Row of a job: mark, E, D, the set before it and the set after it.": on a board that has passed check 0.
+#![tactic(auto)]
+
 ghost use Rattle.std.specs.Prelude.{◌≡◌, true, ◌<◌};
 ghost use Rattle.paper_board.specs.Paper.Limits.{job_limit};
 ghost use Rattle.paper_closure.specs.Passes.{passes};

@@ -1,4 +1,6 @@
 // What an entry states, once its checks have let it pass.
+#![tactic(auto)]
+
 ghost use Rattle.std.specs.Prelude.{◌≡◌, cond, eqb};
 ghost use Rattle.paper_entries.specs.Paper.EntryOf.{entry_of};
 ghost use Rattle.call_statements.specs.StatedBy.{ChecksPassed, stated_by};
@@ -9,7 +11,7 @@ use paper_board::facts::{Fact, Side};
 use paper_entries::Entry;
 
 // A job's row, or one fact, or two: a cut states a bound on either side.
-#[derive(Drop)]
+#[derive(Clone, Copy)]
 pub enum Stated {
     Row {
         length: i32,

@@ -1,4 +1,6 @@
 // What a program compares with the header that it was built with, before its first call.
+#![tactic(auto)]
+
 ghost use Rattle.std.specs.Prelude.{◌≡◌};
 ghost use Rattle.call_version.specs.Version.{version_number, board_bytes};
 

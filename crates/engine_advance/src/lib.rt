@@ -1,4 +1,6 @@
 // Propagation on a board's arrays, and the jobs struck out that it finds can't stay.
+#![tactic(auto)]
+
 ghost use Rattle.std.specs.Prelude.{◌≡◌, true};
 ghost use Rattle.paper_rules.specs.Update.ArraysWithin.{ArraysWithin};
 ghost use Rattle.engine_marks.specs.Marked as sets;
@@ -11,7 +13,7 @@ use engine_strikes::strike;
 use paper_board::Board;
 
 // Where propagation leads: to a board with these live and valid jobs, or nowhere, where it isn't possible.
-#[derive(Drop)]
+#[derive(Clone, Copy)]
 pub struct Advanced {
     pub possible: bool,
     pub sets: Marks,

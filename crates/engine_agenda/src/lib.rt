@@ -1,4 +1,6 @@
 // What propagation has still to look at. Nothing is promised of it: whatever is left out here, the search finds.
+#![tactic(auto)]
+
 use engine_ends::Ends;
 use engine_precedence::Pushed;
 use paper_board::facts::Side;
@@ -7,7 +9,7 @@ use paper_board::facts::Side;
 // neighbours of a job that a fact moves. The jobs after a raised one and before a lowered one, which move only seldom, since most arcs
 // have room to spare. The jobs that have moved (R6, R3). Those through which R1 may join others, and those that may have arcs both ways to
 // another (R2). The side whose turn it is.
-#[derive(Drop)]
+#[derive(Clone, Copy)]
 pub struct Agenda {
     pub early: u64,
     pub late: u64,

@@ -1,4 +1,6 @@
 // "keeps something twice that doesn't agree": each arc stands in the word after its first job and in the word before its second.
+#![tactic(auto)]
+
 ghost use Rattle.std.specs.Prelude.{◌≡◌, eqb};
 ghost use Rattle.paper_board.specs.BoardTests.Decides.{Decides};
 ghost use Rattle.engine_agreement.specs.Agree.{SameBits, SameWords, Agree};

@@ -1,4 +1,6 @@
 // Arcs put on a board, in both words that keep them.
+#![tactic(auto)]
+
 ghost use Rattle.std.specs.Prelude.{◌≡◌, ◌<◌, get_or, set};
 ghost use Rattle.std.proofs.Math.Option.{some};
 ghost use Rattle.ground_sets.specs.Bit.{with};

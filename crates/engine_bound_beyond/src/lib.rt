@@ -1,4 +1,6 @@
 // The bound that the valid jobs beyond a job leave to it.
+#![tactic(auto)]
+
 ghost use Rattle.std.specs.Prelude.{◌≡◌, true, ◌≢◌, ◌<◌};
 ghost use Rattle.ground_sets.specs.Bit.{bit};
 ghost use Rattle.paper_board.specs.Paper.Limits.{job_limit};

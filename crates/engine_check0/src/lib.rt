@@ -1,5 +1,7 @@
 // Check 0: "the board handed in breaks a limit above, keeps something twice that doesn't agree, or isn't closed over what it
 // shows".
+#![tactic(auto)]
+
 ghost use Rattle.std.specs.Prelude.{◌≡◌};
 ghost use Rattle.paper_closure.specs.Passes as check;
 

@@ -1,4 +1,6 @@
 // The closure: the rules applied until nothing is left to infer, or a mark would have to change. The board's arrays are altered in place.
+#![tactic(auto)]
+
 ghost use Rattle.paper_rules.specs.Update.ArraysWithin.{ArraysWithin, Alters};
 ghost use Rattle.paper_closure.specs.Closure as closing;
 

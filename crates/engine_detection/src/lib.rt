@@ -1,5 +1,7 @@
 // Detectable precedence: what R3 infers where a window has moved: a job that can't come after another comes before it. It is sound and need
 // not be complete: what it leaves out the search finds.
+#![tactic(auto)]
+
 ghost use Rattle.std.specs.Prelude.{◌≢◌, ◌<◌};
 ghost use Rattle.ground_arithmetic.specs.Time.{Moderate};
 ghost use Rattle.paper_board.specs.Paper.Limits.{job_limit};

@@ -1,4 +1,6 @@
 // Dominance: the job whose sums on one side serve for those of another.
+#![tactic(auto)]
+
 ghost use Rattle.std.specs.Prelude.{◌≡◌, true, ◌<◌};
 ghost use Rattle.paper_board.specs.Paper.Limits.{job_limit};
 ghost use Rattle.paper_board.specs.Paper.Values.{side_of};

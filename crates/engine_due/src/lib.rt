@@ -1,4 +1,6 @@
 // Where a fact begins to work: what propagation has to look at first on a board that shows it, where nothing else is left to do.
+#![tactic(auto)]
+
 ghost use Rattle.std.specs.Prelude.{◌<◌};
 ghost use Rattle.paper_board.specs.Paper.Facts.{AboutJobs};
 ghost use Rattle.paper_board.specs.Paper.Limits.{job_limit};

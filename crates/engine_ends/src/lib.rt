@@ -1,4 +1,6 @@
 // The ends of new arcs: what they give other rules to do. Nothing is promised of it: whatever is left out here, the search finds.
+#![tactic(auto)]
+
 ghost use Rattle.std.specs.Prelude.{◌<◌};
 ghost use Rattle.paper_board.specs.Paper.Limits.{job_limit};
 
@@ -6,7 +8,7 @@ use paper_board::Board;
 
 // The jobs at the ends of new arcs: those that got a job before them, whose E may have to rise, and those that got one after them, whose D
 // may have to fall; those through which R1 may join others, and those with arcs both ways (R2).
-#[derive(Drop)]
+#[derive(Clone, Copy)]
 pub struct Ends {
     pub early: u64,
     pub late: u64,

@@ -1,4 +1,6 @@
 // The energy bound of R4 and R5: the best sum that a set of jobs allows, without a copy of the jobs.
+#![tactic(auto)]
+
 ghost use Rattle.std.specs.Prelude.{◌≡◌, true, ◌<◌};
 ghost use Rattle.ground_arithmetic.specs.Time.{Moderate};
 ghost use Rattle.paper_board.specs.Paper.Limits.{job_limit};
@@ -10,7 +12,7 @@ use paper_board::Board;
 use paper_board::facts::Side;
 
 // The jobs still in play, the least of their bounds, and the sum of their lengths.
-#[derive(Drop)]
+#[derive(Clone, Copy)]
 pub struct Play {
     pub set: u64,
     pub least: i32,

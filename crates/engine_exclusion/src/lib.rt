@@ -1,5 +1,7 @@
 // Exclusion: the jobs that can't stay by R2, since they have arcs both ways to a valid job, or by R6, since they don't fit their windows.
 // It is sound and need not be complete: what it leaves out the search finds.
+#![tactic(auto)]
+
 ghost use Rattle.engine_sums.specs.Sums.{Times, Lengths};
 ghost use Rattle.engine_exclusion.specs.Gone.{Crossed, Unfit};
 

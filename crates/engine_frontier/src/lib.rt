@@ -1,4 +1,6 @@
 // The jobs to move next, in topological order.
+#![tactic(auto)]
+
 use engine_bound_beyond::last;
 use paper_board::Board;
 

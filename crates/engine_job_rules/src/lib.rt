@@ -1,4 +1,6 @@
 // The search at one job: what R4, R5 and R6 infer of its window.
+#![tactic(auto)]
+
 ghost use Rattle.std.specs.Prelude.{◌<◌};
 ghost use Rattle.paper_board.specs.Paper.Limits.{job_limit};
 ghost use Rattle.paper_board.specs.Paper.Values.{side_of};

@@ -1,4 +1,6 @@
 // A bound that valid jobs leave to those behind them, kept while it holds.
+#![tactic(auto)]
+
 ghost use Rattle.std.specs.Prelude.{◌≡◌, ◌≢◌, ◌<◌};
 ghost use Rattle.paper_board.specs.Paper.Limits.{job_limit};
 ghost use Rattle.paper_board.specs.Paper.Values.{side_of};
@@ -14,7 +16,7 @@ use paper_board::Board;
 use paper_board::facts::Side;
 
 // A set of valid jobs, and a time, as a bound on one side, that it leaves to the jobs behind it. No jobs: no bound is known.
-#[derive(Drop)]
+#[derive(Clone, Copy)]
 pub struct Leading {
     pub set: u64,
     pub time: i32,

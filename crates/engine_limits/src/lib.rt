@@ -1,4 +1,6 @@
 // The test of "the board handed in breaks a limit above, [or] keeps something twice that doesn't agree".
+#![tactic(auto)]
+
 ghost use Rattle.std.specs.Prelude.{◌≡◌};
 ghost use Rattle.paper_board.specs.BoardTests.Decides.{Decides};
 ghost use Rattle.paper_board.specs.BoardTests.WithinLimits as limits;

@@ -1,5 +1,7 @@
 // Jobs put one after the other, each as early as its own bound and the job before it allow. Whatever their order, no sum of theirs is above
 // their end: so the order need not be right.
+#![tactic(auto)]
+
 ghost use Rattle.std.specs.Prelude.{◌≡◌, ℕ, ◌<◌};
 ghost use Rattle.std.proofs.Math.Option.{none};
 ghost use Rattle.paper_board.specs.Paper.Limits.{job_limit};
@@ -14,7 +16,7 @@ use paper_board::facts::Side;
 
 // The jobs of a set that are still to come, where the last block of jobs without idle time between them begins, and where it ends. Of the beginning
 // nothing is promised: who uses it tests what it gives.
-#[derive(Drop)]
+#[derive(Clone, Copy)]
 pub struct Sequence {
     pub left: u64,
     pub start: i32,

@@ -1,4 +1,6 @@
 // Sets of jobs by their marks.
+#![tactic(auto)]
+
 ghost use Rattle.std.specs.Prelude.{◌≡◌, cond, ◌<◌, ◌≤◌};
 ghost use Rattle.ground_sets.specs.Bit.{with};
 ghost use Rattle.paper_board.specs.Paper.Limits.{job_limit};
@@ -29,7 +31,7 @@ fn with_tested(set: u64, k: usize, test: bool) -> u64
 }
 
 // The live jobs, and among them the valid ones. "Live" means not marked 2.
-#[derive(Drop)]
+#[derive(Clone, Copy)]
 pub struct Marks {
     pub live: u64,
     pub valid: u64,

@@ -1,4 +1,6 @@
 // The energy bound by an order of the jobs, where one is known.
+#![tactic(auto)]
+
 ghost use Rattle.std.specs.Prelude.{◌≡◌, true};
 ghost use Rattle.std.proofs.Math.Option.{none};
 ghost use Rattle.ground_arithmetic.specs.Time.{Moderate};

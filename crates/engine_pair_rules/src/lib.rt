@@ -1,4 +1,6 @@
 // The search at a pair of jobs: what R1, R2 and R3 infer of its arcs and marks.
+#![tactic(auto)]
+
 ghost use Rattle.std.specs.Prelude.{◌≡◌, not, ◌&&◌, ◌<◌, ◌+ℤ◌};
 ghost use Rattle.std.specs.Int.Signed.{lt_z};
 ghost use Rattle.ground_sets.specs.Bit.{bit};

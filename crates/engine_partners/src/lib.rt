@@ -1,4 +1,6 @@
 // The jobs to pair with a job: those at which R1, R2 or R3 may infer something that the other pairs and the jobs don't tell.
+#![tactic(auto)]
+
 ghost use Rattle.std.specs.Prelude.{◌≡◌, ◌&&◌, ℕ, ◌<◌, pos, ◌+ℤ◌, get_or};
 ghost use Rattle.std.specs.Int.Signed.{lt_z};
 ghost use Rattle.ground_sets.specs.Bit.{bit};

@@ -1,4 +1,6 @@
 // The test of what one place of a board holds: nothing, an invalid job, or a live one.
+#![tactic(auto)]
+
 ghost use Rattle.std.specs.Prelude.{◌≡◌, ◌&&◌, ◌<◌};
 ghost use Rattle.paper_board.specs.Paper.Limits.{job_limit};
 ghost use Rattle.paper_board.specs.BoardTests.Decides.{Decides};

@@ -1,5 +1,7 @@
 // Precedence propagation: the windows of some jobs, each bounded by the valid jobs on one side of it. It is sound and need not be complete:
 // what it leaves out the search finds.
+#![tactic(auto)]
+
 ghost use Rattle.std.specs.Prelude.{◌≡◌, List, ℕ, ◌<◌};
 ghost use Rattle.ground_sets.specs.Bit.{union};
 ghost use Rattle.ground_arithmetic.specs.Time.{Moderate};
@@ -43,7 +45,7 @@ fn holds(side: Side, time: i32, fixed: i32, length: i32) -> bool
 
 // The jobs that moved, those that can't move as far as they have to, since they no longer fit their windows, and those that may have to
 // move in their turn.
-#[derive(Drop)]
+#[derive(Clone, Copy)]
 pub struct Pushed {
     pub moved: u64,
     pub stuck: u64,

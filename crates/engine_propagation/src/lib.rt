@@ -1,5 +1,7 @@
 // Propagation: each rule applied where something may have changed, and from there on as far as it leads. It is sound and need not be
 // complete: it leaves the search little to find.
+#![tactic(auto)]
+
 ghost use Rattle.std.specs.Prelude.{List, ℕ, ℤ};
 ghost use Rattle.paper_board.specs.Paper.Values.{side_of};
 ghost use Rattle.engine_sums.specs.Sums.{Times, Lengths};
@@ -24,7 +26,7 @@ use paper_board::facts::Side;
 const TURNS: usize = 65536;
 
 // What is left to do after a turn, and the jobs found that can't stay.
-#[derive(Drop)]
+#[derive(Clone, Copy)]
 pub struct Turned {
     pub left: Agenda,
     pub stuck: u64,

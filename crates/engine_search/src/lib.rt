@@ -1,4 +1,6 @@
 // "for every ordered pair of two live jobs": the first inference that the board doesn't show yet, if any.
+#![tactic(auto)]
+
 ghost use Rattle.std.specs.Prelude.{◌<◌};
 ghost use Rattle.paper_board.specs.Paper.Limits.{job_limit};
 ghost use Rattle.paper_rules.specs.Inference.Infers.{Obeys};
@@ -16,7 +18,7 @@ use paper_board::Board;
 use paper_board::facts::Side;
 
 // A pair of jobs at which a rule applies, where there is one.
-#[derive(Drop)]
+#[derive(Clone, Copy)]
 enum Pair {
     None,
     At(usize, usize),

@@ -1,4 +1,6 @@
 // The sums that R4 and R5 compare a bound with, for one job alone; and a sum as a bound on either side.
+#![tactic(auto)]
+
 ghost use Rattle.std.specs.Prelude.{◌≡◌, ◌<◌};
 ghost use Rattle.std.specs.Int.Signed.{lt_z};
 ghost use Rattle.ground_arithmetic.specs.Time.{Moderate};
@@ -10,7 +12,7 @@ use paper_board::Board;
 use paper_board::facts::Side;
 
 // The bound that some jobs leave to another, where it is above what that job has already.
-#[derive(Drop)]
+#[derive(Clone, Copy)]
 pub enum EnergyBound {
     Unbounded,
     At(i32),

@@ -1,5 +1,7 @@
 // Transitivity: what R1 infers through each valid job in turn, from all jobs before it to all after it, as in Warshall's
 // algorithm. It is sound and need not be complete: what it leaves out the search finds.
+#![tactic(auto)]
+
 ghost use Rattle.std.specs.Prelude.{◌<◌, get_or};
 ghost use Rattle.paper_board.specs.Paper.Limits.{job_limit};
 ghost use Rattle.paper_board.specs.BoardTests.Sets.{Subset};

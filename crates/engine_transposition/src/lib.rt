@@ -1,4 +1,6 @@
 // The transpose of a matrix of 64 words of 64 bits, by six rounds of exchanged blocks.
+#![tactic(auto)]
+
 ghost use Rattle.std.specs.Prelude.{◌<◌};
 ghost use Rattle.ground_sets.specs.Bit.{width};
 ghost use Rattle.engine_transposition.specs.Transpose.{Mask, Lower, Upper, Exchanged, Transposed};

@@ -1,5 +1,7 @@
 // Updates: the least board above this one where one more fact holds, or none where a mark would have to change. Entries and
 // rules go through the same ones. A board's arrays are altered in place, since to hand on a board is to copy it.
+#![tactic(auto)]
+
 ghost use Rattle.std.specs.Prelude.{◌≡◌, true, ◌<◌};
 ghost use Rattle.std.proofs.Math.Option.{some};
 ghost use Rattle.ground_arithmetic.specs.Time.{Moderate};

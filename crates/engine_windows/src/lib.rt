@@ -1,4 +1,6 @@
 // A job's window, and what a bound on one side makes of it.
+#![tactic(auto)]
+
 ghost use Rattle.std.specs.Prelude.{◌≡◌, ◌+ℤ◌};
 ghost use Rattle.std.specs.Int.Signed.{le_z, lt_z};
 ghost use Rattle.ground_arithmetic.specs.Time.{Moderate};
@@ -7,7 +9,7 @@ ghost use Rattle.engine_windows.specs.Windows as windows;
 
 use paper_board::facts::Side;
 
-#[derive(Drop)]
+#[derive(Clone, Copy)]
 pub struct Window {
     pub earliest: i32,
     pub latest: i32,

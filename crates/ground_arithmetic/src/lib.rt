@@ -1,4 +1,6 @@
 // Signed minutes: sums, the greater, the lesser, the gap.
+#![tactic(auto)]
+
 ghost use Rattle.std.specs.Prelude.{◌≡◌, ◌+ℤ◌, ◌-ℤ◌};
 ghost use Rattle.ground_arithmetic.specs.Time as time;
 

@@ -1,4 +1,6 @@
 // Sets of at most 64 jobs, each set one word with bit k for job k: test, union and clearing by shift and mask.
+#![tactic(auto)]
+
 ghost use Rattle.std.specs.Prelude.{◌≡◌, ◌<◌};
 ghost use Rattle.ground_sets.specs.Bit as sets;
 

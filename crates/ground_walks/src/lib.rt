@@ -1,4 +1,6 @@
 // Walks over a set of jobs, up or down, which take out one job at a time.
+#![tactic(auto)]
+
 ghost use Rattle.std.specs.Prelude.{false, ◌≢◌};
 ghost use Rattle.ground_sets.specs.Bit as sets;
 ghost use Rattle.ground_walks.specs.Takes as walks;
@@ -22,7 +24,7 @@ pub fn highest(w: u64) -> usize
 }
 
 // A job taken out of a set, and the jobs that are left.
-#[derive(Drop)]
+#[derive(Clone, Copy)]
 pub struct Taken {
     pub member: usize,
     pub rest: u64,

@@ -1,4 +1,6 @@
 // The board of one dock as a struct by value, with the limits that belong to its type, and the refusals of the table.
+#![tactic(auto)]
+
 ghost use Rattle.std.specs.Prelude.{◌≡◌};
 ghost use Rattle.paper_board.specs.Paper.Limits.{empty_board};
 ghost use Rattle.paper_board.specs.Paper.Parts.{empty_books};
@@ -10,7 +12,7 @@ pub mod range;
 // A place k below `jobs` is job k. A place without a job holds 0 in everything. Bit k of `after[i]` is the arc from i to k,
 // and bit i of `before[k]` is the same arc, kept a second time so that either set is one word. A host in C or Rust keeps the same struct.
 #[repr(C)]
-#[derive(Drop)]
+#[derive(Clone, Copy)]
 pub struct Board {
     pub jobs: usize,
     pub lengths: [i32; Board::JOBS],
@@ -24,7 +26,7 @@ pub struct Board {
 
 // What a board keeps beside the arrays: no update and no inference alters it.
 #[repr(C)]
-#[derive(Drop)]
+#[derive(Clone, Copy)]
 pub struct Books {
     pub tally: u32,
 }
@@ -71,7 +73,7 @@ impl Board {
 }
 
 // Why a call is refused, in the order of the paper's table.
-#[derive(Drop)]
+#[derive(Clone, Copy)]
 pub enum Refusal {
     Board,
     Full,

@@ -1,1 +1,2 @@
 // The closure as mathematics: definitions and theorems, no code.
+#![tactic(auto)]

@@ -1,1 +1,2 @@
 // What the board promises: no code of its own.
+#![tactic(auto)]

@@ -1,4 +1,6 @@
 // What the entry calls take, and what the calls on a board hand back.
+#![tactic(auto)]
+
 ghost use Rattle.std.specs.Prelude.{◌≡◌};
 ghost use Rattle.paper_entries.specs.Paper.Entry as paper;
 ghost use Rattle.paper_entries.specs.Paper.EntryOf.{entry_of};
@@ -6,7 +8,7 @@ ghost use Rattle.paper_entries.specs.Paper.EntryOf.{entry_of};
 use paper_board::{Board, Refusal};
 
 // An entry with any numbers.
-#[derive(Drop)]
+#[derive(Clone, Copy)]
 pub enum Entry {
     Addition {
         length: i32,
@@ -69,7 +71,7 @@ impl Entry {
 }
 
 // The answer to an entry: the number of the job added, acceptance, or a refusal.
-#[derive(Drop)]
+#[derive(Clone, Copy)]
 pub enum Answer {
     Added(usize),
     Accepted,
@@ -77,14 +79,14 @@ pub enum Answer {
 }
 
 // The answer and the board after the entry.
-#[derive(Drop)]
+#[derive(Clone, Copy)]
 pub struct Entered {
     pub answer: Answer,
     pub board: Board,
 }
 
 // A job's row with its sets as words, bit k for job k; or a refusal.
-#[derive(Drop)]
+#[derive(Clone, Copy)]
 pub enum RowAnswer {
     Row {
         mark: u8,
@@ -97,7 +99,7 @@ pub enum RowAnswer {
 }
 
 // The arcs between two jobs (0 none, 1 first to second, 2 second to first, 3 both) and the gap; or a refusal.
-#[derive(Drop)]
+#[derive(Clone, Copy)]
 pub enum PairAnswer {
     Pair { arcs: u8, gap: i32 },
     Refused(Refusal),

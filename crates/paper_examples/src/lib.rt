@@ -1,1 +1,2 @@
 // No code: the crate computes tables of examples from the definitions.
+#![tactic(auto)]

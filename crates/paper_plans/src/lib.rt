@@ -1,8 +1,10 @@
 // What the planner hands back.
+#![tactic(auto)]
+
 use paper_board::{Board, Refusal};
 
 // How the tries ended, and the number of tries; or a refusal.
-#[derive(Drop)]
+#[derive(Clone, Copy)]
 pub enum PlanAnswer {
     // All valid jobs are placed.
     Found(u32),
@@ -15,7 +17,7 @@ pub enum PlanAnswer {
 
 // The answer with the plan: the placed jobs as a word, bit k for job k, and the start of each; 0 for the others. Without a plan
 // no job is placed.
-#[derive(Drop)]
+#[derive(Clone, Copy)]
 pub struct Planned {
     pub answer: PlanAnswer,
     pub placed: u64,

@@ -1,4 +1,6 @@
 // A text from a descriptor, answered on standard output.
+#![tactic(auto)]
+
 ghost use Rattle.std.specs.Prelude.{◌≡◌, true, ◌≤◌, length};
 ghost use Rattle.text_pieces.specs.Pieces.{Whole};
 
@@ -9,7 +11,7 @@ use paper_board::Board;
 const ROOM: usize = text_pieces::LOAD + 1;
 
 // How many bytes were read, and whether no read failed.
-#[derive(Drop)]
+#[derive(Clone, Copy)]
 struct Input {
     complete: bool,
     length: usize,
@@ -55,7 +57,7 @@ fn read_all(fd: i32, buffer: &mut [u8]) -> Input
 }
 
 // Whether all answers were written, and the board after the text.
-#[derive(Drop)]
+#[derive(Clone, Copy)]
 pub struct Served {
     pub complete: bool,
     pub board: Board,

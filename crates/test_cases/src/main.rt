@@ -1,4 +1,6 @@
 // Texts by file, each answered as `bayboard` does, after a line with the file's name.
+#![tactic(auto)]
+
 use libc::STDOUT_FILENO;
 
 fn case(k: usize) {

@@ -1,5 +1,7 @@
 // "the two manners may be mixed": one sequence of calls on two boards, each altered by value and in place by turns, the one where
 // the other is not. Each answer, and each row at the end, is written for the first board and then for the second.
+#![tactic(auto)]
+
 use crate::play::{Boards, play};
 use call_dock::Dock;
 use paper_board::Board;

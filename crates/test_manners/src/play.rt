@@ -5,7 +5,7 @@ use paper_board::Board;
 use paper_entries::{Entered, Entry};
 
 // Two boards on which the same entries were made; `lent` says that the first is next altered in place.
-#[derive(Drop)]
+#[derive(Clone, Copy)]
 pub struct Boards {
     pub first: Board,
     pub second: Board,

@@ -1,4 +1,6 @@
 // The lines that README prints for a program in Rattle (`tests/readme` holds them to these), and what they answer.
+#![tactic(auto)]
+
 use call_dock::Dock;
 use paper_board::Board;
 use paper_entries::Entered;

@@ -1,4 +1,6 @@
 // Answers in the paper's text, on standard output.
+#![tactic(auto)]
+
 use libc::STDOUT_FILENO;
 use paper_entries::{Answer, PairAnswer, RowAnswer};
 use paper_plans::Planned;

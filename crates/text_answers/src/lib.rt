@@ -1,4 +1,6 @@
 // The answer to a form, and the board after it.
+#![tactic(auto)]
+
 ghost use Rattle.std.specs.Prelude.{◌≡◌, true, ◌+◌, ◌≤◌, length};
 ghost use Rattle.text_decimals.specs.Written.{Written};
 ghost use Rattle.paper_closure.specs.Passes.{passes};
@@ -16,7 +18,7 @@ use text_plans::put_plan;
 use text_replies::{put_answer, put_pair, put_refusal, put_row, put_tally};
 
 // The board after a form, and where its answer ends in the buffer.
-#[derive(Drop)]
+#[derive(Clone, Copy)]
 pub struct Answered {
     pub board: Board,
     pub end: usize,

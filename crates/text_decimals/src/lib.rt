@@ -1,4 +1,6 @@
 // A number written into a lent buffer: each function writes from `at` on, and says where the text ends.
+#![tactic(auto)]
+
 ghost use Rattle.std.specs.Prelude.{[], ◌∷◌, ◌≡◌, ◌+◌, ◌≤◌, ◌<◌, nat_abs, length};
 ghost use Rattle.text_decimals.specs.Decimal.{natural, decimal};
 ghost use Rattle.text_decimals.specs.Written.{Written};

@@ -1,4 +1,6 @@
 // A format filled in, into a lent buffer.
+#![tactic(auto)]
+
 ghost use Rattle.std.specs.Prelude.{◌≤◌, ◌+◌, length};
 ghost use Rattle.text_decimals.specs.Written.{Written};
 ghost use Rattle.text_formats.specs.Format.{filled, marks, natural_mark, number_mark, room};

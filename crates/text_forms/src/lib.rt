@@ -1,4 +1,6 @@
 // "one bracket form a line": the form that a line is.
+#![tactic(auto)]
+
 pub mod line;
 mod table;
 
@@ -11,7 +13,7 @@ use table::first;
 use text_scans::PLACES;
 
 // A form with its numbers.
-#[derive(Drop)]
+#[derive(Clone, Copy)]
 pub enum Form {
     Entry(Entry),
     Row { job: i32 },

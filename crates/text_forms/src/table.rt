@@ -7,7 +7,7 @@ use crate::line::line_length;
 use text_scans::{PLACES, scan};
 
 // Which format of the table, counted from 0, and the numbers in the text; past the last where the text is written by none.
-#[derive(Drop)]
+#[derive(Clone, Copy)]
 pub struct Match {
     pub index: usize,
     pub numbers: [i32; PLACES],

@@ -1,11 +1,13 @@
 // "A number is an optional minus and 1 to 7 decimal digits, no leading zero, no -0."
+#![tactic(auto)]
+
 ghost use Rattle.std.specs.Prelude.{true, ◌≡◌, pos, length};
 ghost use Rattle.text_decimals.specs.Bytes.{is_digit};
 ghost use Rattle.text_numerals.specs.Numerals as numerals;
 ghost use Rattle.text_numerals.specs.Numerals.{is_natural, natural_at, number_at};
 
 // What stands at the start of a text.
-#[derive(Drop)]
+#[derive(Clone, Copy)]
 pub enum Numeral {
     // A number, and how many bytes it takes.
     Number { length: usize, value: i32 },

@@ -1,4 +1,6 @@
 // "The text": a text answered from bytes to bytes, a piece at a time.
+#![tactic(auto)]
+
 ghost use Rattle.std.specs.Prelude.{◌≡◌, true, ◌≤◌, length};
 ghost use Rattle.paper_closure.specs.Passes.{passes};
 ghost use Rattle.text_replies.specs.Room.{answer_room};
@@ -16,7 +18,7 @@ use text_replies::{ANSWER_ROOM, put_refusal};
 pub const LOAD: usize = 65536;
 
 // How far a text was answered: the board after it, how many of its bytes were read, and how many bytes of answers were written.
-#[derive(Drop)]
+#[derive(Clone, Copy)]
 pub struct Piece {
     pub board: Board,
     pub read: usize,

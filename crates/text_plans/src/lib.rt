@@ -1,4 +1,6 @@
 // The answer of `plan` as text, written into a lent buffer.
+#![tactic(auto)]
+
 ghost use Rattle.std.specs.Prelude.{◌+◌, ◌≤◌, ◌<◌, length};
 ghost use Rattle.ground_sets.specs.Bit.{bit};
 ghost use Rattle.text_decimals.specs.Written.{Written};

@@ -1,4 +1,6 @@
 // "Each line gives one line": the answers as text but for the planner's, written into a lent buffer.
+#![tactic(auto)]
+
 ghost use Rattle.std.specs.Prelude.{◌+◌, ◌≤◌, length};
 ghost use Rattle.text_decimals.specs.Written.{Written};
 ghost use Rattle.paper_board.specs.Paper.Refusals.{number_of};

@@ -1,4 +1,6 @@
 // A text read by a format.
+#![tactic(auto)]
+
 ghost use Rattle.std.proofs.Math.Option.{none};
 ghost use Rattle.std.specs.Prelude.{◌≡◌, ◌≤◌};
 ghost use Rattle.text_formats.specs.Format as formats;
@@ -11,7 +13,7 @@ use text_numerals::{Numeral, number};
 pub const PLACES: usize = 8;
 
 // The numbers at the marks of a format, in turn, and 0 beyond them; none where the text is not the format filled in.
-#[derive(Drop)]
+#[derive(Clone, Copy)]
 pub struct Scanned {
     pub matched: bool,
     pub numbers: [i32; PLACES],

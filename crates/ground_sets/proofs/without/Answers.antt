@@ -1,14 +1,9 @@
 -- `ground_sets::without` meets its contract: `1 << k` is the set of job k alone. Assumes nothing.
-use borrow.Author.Rules.{rules}
 use mathlib.Core.Path.{ap}
 use Rattle.ground_sets.specs.Bit.{without, difference}
 use Rattle.ground_sets.specs.BitLaws.{singleton_shifted}
-use Rattle.ground_sets.proofs.without.Statement.{statement}
-use Rattle.ground_sets.proofs.without.Tie as tie
+use Rattle.ground_sets.proofs.without.Goals as goal
 
-returns : tie.Need-returns
+pub returns : goal.returns
 unfolding without difference
 returns c = ap (difference 64 c.args.w) (singleton_shifted 64 c.args.k c.requires)
-
-pub without_spec : {M : Type 1} → statement M
-without_spec = tie.close (tie.spec (λ c. search rules) returns)
