@@ -2,7 +2,7 @@
 use mathlib.Core.Path.{sym, ◌∙◌}
 use borrow.Author.Rules.{rules}
 use Rattle.paper_rules.specs.Update.ArraysWithin.{filled}
-use Rattle.paper_rules.specs.Update.Shown.{arc_shown, arc_new}
+use Rattle.paper_rules.specs.Update.Shown.{arc_shown_before, arc_new}
 use Rattle.engine_arcs.proofs.join.Statement.{statement}
 use Rattle.engine_arcs.proofs.join.Tie as tie
 
@@ -10,7 +10,7 @@ returns : tie.Need-returns
 returns c b i k within =
     let a = c.before.before.before.args in
     let board = filled b b.lengths b.earliest b.latest a.marks.now a.after.now a.before.now in
-    arc_shown board within _ _ (sym (c.before.is-joined.ensures board) ∙ c.if1.true)
+    arc_shown_before board within _ _ (sym (c.before.is-joined.ensures board) ∙ c.if1.true)
 
 returns-2 : tie.Need-returns-2
 returns-2 c b i k within =

@@ -9,7 +9,7 @@ use mir.ValLaws.{to_z-of_z}
 use Rattle.ground_arithmetic.specs.Bools.{refuted}
 use Rattle.paper_board.specs.Paper.Values.{side_of}
 use Rattle.paper_rules.specs.Update.ArraysWithin.{filled}
-use Rattle.paper_rules.specs.Update.Shown.{bound_shown}
+use Rattle.paper_rules.specs.Update.Shown.{bound_shown_before}
 use Rattle.engine_windows.specs.Windows.{bounded}
 use Rattle.engine_windows.specs.WindowLaws.{bounded_moderate}
 use Rattle.engine_bounds.specs.Tightens.{bound_fits, bound_cramped}
@@ -21,7 +21,7 @@ returns c b job =
     let start = c.before.before.before.before in
     let a = start.args in
     let board = filled b a.lengths.now a.earliest.now a.latest.now a.marks.now b.after b.before in (
-      λ _. bound_shown board (side_of a.side) a.job _
+      λ _. bound_shown_before board (side_of a.side) a.job _
           (sym (simp (to_z-of_z, start.ranges.time) at (c.before.is-bounded.ensures board)) ∙ c.if1.true),
       λ e. absurd (refuted e refl),
     )

@@ -6,7 +6,7 @@ use mir.Syntax.{w32}
 use mir.Val.{SFits}
 use mir.ValLaws.{to_z-of_z}
 use Rattle.paper_rules.specs.Update.ArraysWithin.{filled}
-use Rattle.paper_rules.specs.Update.Shown.{arc_shown, bound_shown, valid_shown, invalid_shown}
+use Rattle.paper_rules.specs.Update.Shown.{arc_shown_before, bound_shown_before, valid_shown, invalid_shown}
 use Rattle.engine_updates.proofs.is_shown.Statement.{statement}
 use Rattle.engine_updates.proofs.is_shown.Tie as tie
 
@@ -28,14 +28,14 @@ returns : tie.Need-returns
 returns c b within e =
     let a = c.before.before.before.before.args in
     let board = filled b b.lengths a.earliest.now a.latest.now a.marks.now a.after.now b.before in
-    rw c.before.before.fact.given.1 (arc_shown board within _ _ (sym (c.is-joined.ensures board) ∙ e))
+    rw c.before.before.fact.given.1 (arc_shown_before board within _ _ (sym (c.is-joined.ensures board) ∙ e))
 
 returns-2 : tie.Need-returns-2
 returns-2 c b within e =
     let a = c.before.before.before.before.args in
     let board = filled b b.lengths a.earliest.now a.latest.now a.marks.now a.after.now b.before in
     let fits : SFits w32 c.before.before.fact2.given.0.1.1.0 = search rules in
-    rw c.before.before.fact2.given.1 (bound_shown board _ _ _ (sym (simp (to_z-of_z, fits) at (c.is-bounded.ensures board)) ∙ e))
+    rw c.before.before.fact2.given.1 (bound_shown_before board _ _ _ (sym (simp (to_z-of_z, fits) at (c.is-bounded.ensures board)) ∙ e))
 
 returns-3 : tie.Need-returns-3
 returns-3 c b within e =

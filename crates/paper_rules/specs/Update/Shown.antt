@@ -59,9 +59,9 @@ module _ (b : Board) where
   same true = refl
   same false = refl
 
-  pub arc_shown : Within b → (i k : ℕ) → arc_shown b i k ≡ true → update b (is_arc i k) ≡ some b
+  pub arc_shown_before : Within b → (i k : ℕ) → arc_shown b i k ≡ true → update b (is_arc i k) ≡ some b
   unfolding update
-  arc_shown h i k = go (eqb (row_of b i).mark 2) (eqb (row_of b k).mark 2) refl refl
+  arc_shown_before h i k = go (eqb (row_of b i).mark 2) (eqb (row_of b k).mark 2) refl refl
     where
       go : (s t : Bool) → eqb (row_of b i).mark 2 ≡ s → eqb (row_of b k).mark 2 ≡ t → (s || (t || arc_of b i k)) ≡ true
           → some (cond (live (view b) i && live (view b) k) (link b i k) b) ≡ some b
@@ -77,9 +77,9 @@ module _ (b : Board) where
       rw (is_live b i job-i p, is_live b k job-k q)
 
   module _ (s : Side) (j : ℕ) (z : ℤ) where
-    pub bound_shown : bound_shown s z (row_of b j) ≡ true → update b (is_bound s j z) ≡ some b
+    pub bound_shown_before : bound_shown s z (row_of b j) ≡ true → update b (is_bound s j z) ≡ some b
     unfolding update
-    bound_shown = go (eqb (row_of b j).mark 2) (lt_z (bound s (row_of b j)) z) refl refl
+    bound_shown_before = go (eqb (row_of b j).mark 2) (lt_z (bound s (row_of b j)) z) refl refl
       where
         go : (t u : Bool) → eqb (row_of b j).mark 2 ≡ t → lt_z (bound s (row_of b j)) z ≡ u → (t || not u) ≡ true
             → cond (live (view b) j && lt_z (bound s (row_of b j)) z) (tighten b j (raised s z (row_of b j))) (some b) ≡ some b

@@ -6,10 +6,10 @@ use mir.ValLaws.{to_z-of_z}
 use borrow.Author.Rules.{rules}
 use Rattle.ground_arithmetic.specs.Bools.{and_asked, and_unasked}
 use Rattle.paper_board.specs.BoardTests.WithinLimits.{is_zero}
-use Rattle.engine_places.proofs.is_zero_row.Statement.{statement}
-use Rattle.engine_places.proofs.is_zero_row.Tie as tie
+use Rattle.engine_places.proofs.is_zero_row.Goals as goal
 
 -- the first two tests
+-- MANUAL
 joined : (c : tie.Joined1)
     → c.if1.if2 ≡ (is_zero c.before.before.args.length && is_zero c.before.before.args.earliest)
 joined c =
@@ -20,14 +20,10 @@ joined c =
     (λ w. w.1 ∙ and_unasked first w.0.left _)
     c.if1.branch
 
-returns : tie.Need-returns
-returns c =
-    let f = c.before.before.before.before.ranges in
-    and_asked (joined c.before.before) c.before.if2.true (simp (to_z-of_z, f.latest) at c.is-zero3.ensures)
+pub returns-then-is_zero-2 : goal.returns-then-is_zero-2
+returns-then-is_zero-2 c =
+    let f = c.ranges in
+    and_asked (joined c) c.if-is_zero-2.true (simp (to_z-of_z, f.latest) at c.is_zero-then-is_zero-2.ensures)
 
-returns-2 : tie.Need-returns-2
-returns-2 c = and_unasked (joined c.before) c.if2.false _
-
-pub is_zero_row_spec : {M : Type 1} → statement M
-is_zero_row_spec =
-    tie.close (tie.spec (λ c κs. search rules) (λ c κs. search rules) (λ c κs. search rules) returns returns-2)
+pub returns-else-is_zero-2 : goal.returns-else-is_zero-2
+returns-else-is_zero-2 c = and_unasked (joined c) c.if-is_zero-2.false _

@@ -1,0 +1,23 @@
+-- `engine_marks::marked` meets its contract. The loop's invariant: the set holds the jobs below k with the mark.
+-- Assumes nothing.
+use Prim.Native.Nat.{ℕ, ◌≤◌, ◌-◌}
+use mathlib.Core.Path.{◌≡◌, refl, sym, ◌∙◌}
+use mathlib.Core.Bool.{Bool}
+use mathlib.Core.Logic.{⊎_elim}
+use native.Mathlib.Omega.{arith}
+use lib.Dec.{eqb}
+use lib.ListN.{get_or}
+use borrow.Author.Rules.{rules}
+use borrow.Author.Tests.{eq-eqb, ne_eqb}
+use Rattle.ground_sets.specs.Bit.{set_of}
+use Rattle.ground_sets.specs.BitLaws.{set_of_with, set_of_same}
+use Rattle.engine_marks.specs.Marked.{marked}
+use Rattle.engine_marks.proofs.marked.Given as goal
+
+abbrev invariant-loop : tie.invariant-loop
+invariant-loop jobs marks mark set₀ k₀ set k = (k ≤ jobs) × (set ≡ marked k marks mark)
+
+abbrev decreases-loop : tie.decreases-loop
+decreases-loop jobs marks mark set₀ k₀ set k = jobs - k
+
+-- LOOPS [[["loop", "loop-k"], ["jobs", "marks", "mark", "set", "k"]]]
