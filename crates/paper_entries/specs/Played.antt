@@ -62,4 +62,4 @@ pub each_held : (P : Board → List Entry → Call → Type 0) → ((b : Board) 
     → (b : Board) (l : List Entry) (cs : List Call) → Held l b → Each P b l cs
 unfolding Each
 each_held P claim b l [] h = tt
-each_held P claim b l (c ∷ cs) h = (claim b l c h, each_held P claim _ _ cs (called l b h c.entry))
+each_held P claim b l (c ∷ cs) h = (claim b l c h, each_held P claim (enter b c.entry).board _ cs (called l b h c.entry))

@@ -13,6 +13,7 @@ use Rattle.ground_sets.specs.Bit.{set_of}
 use Rattle.ground_sets.specs.BitLaws.{set_of_with, set_of_same}
 use Rattle.engine_marks.specs.Marked.{marked}
 use Rattle.engine_marks.proofs.marked.Goals as goal
+use Rattle.engine_marks.proofs.marked.Goals.{else-marks-k, then-marks-k}
 
 pub loop-k-init : goal.loop-k-init
 unfolding set_of
@@ -20,12 +21,9 @@ loop-k-init c = (search rules, refl)
 
 pub loop-k-preserved : goal.loop-k-preserved
 loop-k-preserved c =
-    let l = c.loop in
+    let l = c.loop-k in
     let passes : ℕ → Bool = λ (j : ℕ). eqb (get_or c.args.marks.now j 0) c.args.mark in
-    ⊎_elim
-    (λ w. (search rules, w.2 ∙ w.1.ensures ∙ rw l.invariant.1 (sym (set_of_with l.k passes (eq-eqb _ _ w.0.taken)))))
-    (λ w. (search rules, w.1 ∙ l.invariant.1 ∙ sym (set_of_same l.k passes (ne_eqb _ _ w.0.left))))
-    c.if-marks-k.branch
+    elim c.if-marks-k.branch [ then-marks-k w ↦ (search rules, w.set-is ∙ w.with-set.ensures ∙ rw l.invariant.1 (sym (set_of_with l.k passes (eq-eqb _ _ w.if-marks-k.true)))) | else-marks-k w ↦ (search rules, w.set-is ∙ l.invariant.1 ∙ sym (set_of_same l.k passes (ne_eqb _ _ w.if-marks-k.false))) ]
 
 pub returns : goal.returns
 returns c = let e : c.loop-k.k ≡ c.args.jobs = omega arith in c.loop-k.invariant.1 ∙ rw e

@@ -14,10 +14,8 @@ use Rattle.ground_sets.specs.BitLaws.{set_of_with, set_of_same}
 use Rattle.engine_marks.specs.Marked.{marked}
 use Rattle.engine_marks.proofs.marked.Given as goal
 
-abbrev invariant-loop : tie.invariant-loop
-invariant-loop jobs marks mark set₀ k₀ set k = (k ≤ jobs) × (set ≡ marked k marks mark)
+abbrev pub invariant-loop-k : goal.invariant-loop-k
+invariant-loop-k l = (l.k ≤ l.jobs) × (l.set ≡ marked l.k l.marks l.mark)
 
-abbrev decreases-loop : tie.decreases-loop
-decreases-loop jobs marks mark set₀ k₀ set k = jobs - k
-
--- LOOPS [[["loop", "loop-k"], ["jobs", "marks", "mark", "set", "k"]]]
+abbrev pub decreases-loop-k : goal.decreases-loop-k
+decreases-loop-k l = l.jobs - l.k

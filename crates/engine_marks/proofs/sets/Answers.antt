@@ -23,8 +23,8 @@ loop-k-init c = (search rules, refl, refl)
 
 pub loop-k-preserved : goal.loop-k-preserved
 loop-k-preserved c =
-    let (below, live, valid) = c.loop.invariant in
-    (omega (arith, c.loop-test.true), next _ _ _ live _ c.with_tested-live.ensures, next _ _ _ valid _ c.with_tested-valid.ensures)
+    let (below, live, valid) = c.loop-k.invariant in
+    (omega (arith, c.loop-k-test.true), next _ _ _ live _ c.with_tested-live.ensures, next _ _ _ valid _ c.with_tested-valid.ensures)
 
 pub returns : goal.returns
 returns c =

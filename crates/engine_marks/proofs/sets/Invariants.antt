@@ -9,10 +9,8 @@ use Rattle.ground_sets.specs.BitLaws.{set_of_with, set_of_same}
 use Rattle.engine_marks.specs.Marked.{marked, unmarked}
 use Rattle.engine_marks.proofs.sets.Given as goal
 
-abbrev invariant-loop : tie.invariant-loop
-invariant-loop jobs marks live₀ valid₀ k₀ live valid k = (k ≤ jobs) × (live ≡ unmarked k marks 2) × (valid ≡ marked k marks 1)
+abbrev pub invariant-loop-k : goal.invariant-loop-k
+invariant-loop-k l = (l.k ≤ l.jobs) × (l.live ≡ unmarked l.k l.marks 2) × (l.valid ≡ marked l.k l.marks 1)
 
-abbrev decreases-loop : tie.decreases-loop
-decreases-loop jobs marks live₀ valid₀ k₀ live valid k = jobs - k
-
--- LOOPS [[["loop", "loop-k"], ["jobs", "marks", "live", "valid", "k"]]]
+abbrev pub decreases-loop-k : goal.decreases-loop-k
+decreases-loop-k l = l.jobs - l.k

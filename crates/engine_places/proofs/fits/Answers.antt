@@ -7,23 +7,21 @@ use borrow.Author.Rules.{rules}
 use Rattle.ground_arithmetic.specs.Bools.{and_asked, and_unasked}
 use Rattle.paper_board.specs.Paper.Tests.{is_length, is_time}
 use Rattle.engine_places.proofs.fits.Goals as goal
+use Rattle.engine_places.proofs.fits.Goals.{Joined-is_length, else-is_length, then-is_length}
 
 -- the first two tests
--- MANUAL
-joined : (c : tie.Joined1)
-    → c.if1.if2 ≡ (is_length c.before.before.args.length && is_time c.before.before.args.earliest)
+-- MANUAL helper
+joined : (c : Joined-is_length)
+    → c.if-is_length.if2 ≡ (is_length c.args.length && is_time c.args.earliest)
 joined c =
-    let f = c.before.before.ranges in
-    let first = simp (to_z-of_z, f.length) at c.before.is-length.ensures in
-    ⊎_elim
-    (λ w. w.2 ∙ and_asked first w.0.taken (simp (to_z-of_z, f.earliest) at w.1.ensures))
-    (λ w. w.1 ∙ and_unasked first w.0.left _)
-    c.if1.branch
+    let f = c.ranges in
+    let first = simp (to_z-of_z, f.length) at c.is_length.ensures in
+    elim c.if-is_length.branch [ then-is_length w ↦ w.value-is ∙ and_asked first w.if-is_length.true (simp (to_z-of_z, f.earliest) at w.is_time.ensures) | else-is_length w ↦ w.value-is ∙ and_unasked first w.if-is_length.false _ ]
 
 pub returns-then-is_time : goal.returns-then-is_time
 returns-then-is_time c =
     let f = c.ranges in
-    and_asked (joined c) c.if-is_time.true (simp (to_z-of_z, f.latest) at c.is_time-then-is_time.ensures)
+    and_asked (joined c.before.before) c.if-is_time.true (simp (to_z-of_z, f.latest) at c.is_time-then-is_time.ensures)
 
 pub returns-else-is_time : goal.returns-else-is_time
-returns-else-is_time c = and_unasked (joined c) c.if-is_time.false _
+returns-else-is_time c = and_unasked (joined c.before) c.if-is_time.false _

@@ -8,7 +8,7 @@ use Rattle.paper_board.specs.Paper.Tests.{is_length, is_time}
 use Rattle.engine_places.proofs.is_live_place.Goals as goal
 
 -- what the test of the row says
--- MANUAL
+-- MANUAL helper
 row_tested : (c : tie.After-fits2)
     → let a = c.before.args in
     c.fits2.result ≡ (is_length a.length && is_time a.earliest && is_time a.latest)

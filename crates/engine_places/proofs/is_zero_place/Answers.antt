@@ -7,16 +7,17 @@ use borrow.Author.Rules.{rules}
 use Rattle.ground_arithmetic.specs.Bools.{and_asked, and_unasked}
 use Rattle.paper_board.specs.BoardTests.WithinLimits.{is_zero}
 use Rattle.engine_places.proofs.is_zero_place.Goals as goal
+use Rattle.engine_places.proofs.is_zero_place.Goals.{After-is_zero_row}
 
 -- what the test of the row says
--- MANUAL
-row_tested : (c : tie.After-is-zero-row)
-    → let a = c.before.args in
-    c.is-zero-row.result ≡ (is_zero a.length && is_zero a.earliest && is_zero a.latest)
-row_tested c = let f = c.before.ranges in simp (to_z-of_z, f.length, f.earliest, f.latest) at c.is-zero-row.ensures
+-- MANUAL helper
+row_tested : (c : After-is_zero_row)
+    → let a = c.args in
+    c.is_zero_row.result ≡ (is_zero a.length && is_zero a.earliest && is_zero a.latest)
+row_tested c = let f = c.ranges in simp (to_z-of_z, f.length, f.earliest, f.latest) at c.is_zero_row.ensures
 
 pub returns-then-is_zero_row : goal.returns-then-is_zero_row
-returns-then-is_zero_row c = and_asked (row_tested c) c.if-is_zero_row.true (ap (λ w. eqb w 0) c.union.ensures)
+returns-then-is_zero_row c = and_asked (row_tested c.before.before) c.if-is_zero_row.true (ap (λ w. eqb w 0) c.union.ensures)
 
 pub returns-else-is_zero_row : goal.returns-else-is_zero_row
-returns-else-is_zero_row c = and_unasked (row_tested c) c.if-is_zero_row.false _
+returns-else-is_zero_row c = and_unasked (row_tested c.before) c.if-is_zero_row.false _

@@ -7,23 +7,21 @@ use borrow.Author.Rules.{rules}
 use Rattle.ground_arithmetic.specs.Bools.{and_asked, and_unasked}
 use Rattle.paper_board.specs.BoardTests.WithinLimits.{is_zero}
 use Rattle.engine_places.proofs.is_zero_row.Goals as goal
+use Rattle.engine_places.proofs.is_zero_row.Goals.{Joined-is_zero, else-is_zero, then-is_zero}
 
 -- the first two tests
--- MANUAL
-joined : (c : tie.Joined1)
-    → c.if1.if2 ≡ (is_zero c.before.before.args.length && is_zero c.before.before.args.earliest)
+-- MANUAL helper
+joined : (c : Joined-is_zero)
+    → c.if-is_zero.if2 ≡ (is_zero c.args.length && is_zero c.args.earliest)
 joined c =
-    let f = c.before.before.ranges in
-    let first = simp (to_z-of_z, f.length) at c.before.is_zero.ensures in
-    ⊎_elim
-    (λ w. w.2 ∙ and_asked first w.0.taken (simp (to_z-of_z, f.earliest) at w.1.ensures))
-    (λ w. w.1 ∙ and_unasked first w.0.left _)
-    c.if1.branch
+    let f = c.ranges in
+    let first = simp (to_z-of_z, f.length) at c.is_zero.ensures in
+    elim c.if-is_zero.branch [ then-is_zero w ↦ w.value-is ∙ and_asked first w.if-is_zero.true (simp (to_z-of_z, f.earliest) at w.is_zero-then-is_zero.ensures) | else-is_zero w ↦ w.value-is ∙ and_unasked first w.if-is_zero.false _ ]
 
 pub returns-then-is_zero-2 : goal.returns-then-is_zero-2
 returns-then-is_zero-2 c =
     let f = c.ranges in
-    and_asked (joined c) c.if-is_zero-2.true (simp (to_z-of_z, f.latest) at c.is_zero-then-is_zero-2.ensures)
+    and_asked (joined c.before.before) c.if-is_zero-2.true (simp (to_z-of_z, f.latest) at c.is_zero-then-is_zero-2.ensures)
 
 pub returns-else-is_zero-2 : goal.returns-else-is_zero-2
-returns-else-is_zero-2 c = and_unasked (joined c) c.if-is_zero-2.false _
+returns-else-is_zero-2 c = and_unasked (joined c.before) c.if-is_zero-2.false _

@@ -13,7 +13,7 @@ loop-i-init c = (search rules, search rules, λ j l. absurd (omega arith))
 
 pub loop-i-preserved : goal.loop-i-preserved
 loop-i-preserved c =
-    let l = c.loop in (
+    let l = c.loop-i in (
       search rules,
       search rules,
       taken_more c.args.shift c.args.mask c.args.from.now l.i l.to _ _ (search rules) l.invariant.1

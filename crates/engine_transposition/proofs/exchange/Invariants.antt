@@ -8,11 +8,9 @@ use Rattle.engine_transposition.specs.Transpose.{Taken, taken_more}
 use borrow.Author.Rules.{rules}
 use Rattle.engine_transposition.proofs.exchange.Given as goal
 
-abbrev invariant-loop : tie.invariant-loop
-invariant-loop from shift mask to₀ i₀ to i =
-    (i ≤ 32) × (length to ≡ width) × ((j : ℕ) → j < 2 * i → Taken shift mask from to j)
+abbrev pub invariant-loop-i : goal.invariant-loop-i
+invariant-loop-i l =
+    (l.i ≤ 32) × (length l.to ≡ width) × ((j : ℕ) → j < 2 * l.i → Taken l.shift l.mask l.from l.to j)
 
-abbrev decreases-loop : tie.decreases-loop
-decreases-loop from shift mask to₀ i₀ to i = 32 - i
-
--- LOOPS [[["loop", "loop-i"], ["from", "shift", "mask", "to", "i"]]]
+abbrev pub decreases-loop-i : goal.decreases-loop-i
+decreases-loop-i l = 32 - l.i

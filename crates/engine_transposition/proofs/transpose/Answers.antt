@@ -4,22 +4,22 @@ use Rattle.engine_transposition.specs.Transpose.{masks, transposed}
 use Rattle.engine_transposition.proofs.transpose.Goals as goal
 
 pub exchange-halves-requires : goal.exchange-halves-requires
-exchange-halves-requires c κs = masks 5 (omega arith)
+exchange-halves-requires c = masks 5 (omega arith)
 
 pub exchange-quarters-requires : goal.exchange-quarters-requires
-exchange-quarters-requires c κs = masks 4 (omega arith)
+exchange-quarters-requires c = masks 4 (omega arith)
 
 pub exchange-bytes-requires : goal.exchange-bytes-requires
-exchange-bytes-requires c κs = masks 3 (omega arith)
+exchange-bytes-requires c = masks 3 (omega arith)
 
 pub exchange-nibbles-requires : goal.exchange-nibbles-requires
-exchange-nibbles-requires c κs = masks 2 (omega arith)
+exchange-nibbles-requires c = masks 2 (omega arith)
 
 pub exchange-pairs-requires : goal.exchange-pairs-requires
-exchange-pairs-requires c κs = masks 1 (omega arith)
+exchange-pairs-requires c = masks 1 (omega arith)
 
 pub exchange-requires : goal.exchange-requires
-exchange-requires c κs = masks 0 (omega arith)
+exchange-requires c = masks 0 (omega arith)
 
 pub returns : goal.returns
 returns c =
