@@ -1,0 +1,10 @@
+-- `call_checks::budget_check` meets its contract, line by line. Assumes nothing.
+use mathlib.Core.List.{[]}
+use mir.ValLaws.{to_z-of_z}
+use Rattle.paper_entries.specs.CheckLines.{no_line}
+use Rattle.call_checks.proofs.budget_check.Goals as goal
+
+pub returns : goal.returns
+returns c =
+    let f = c.ranges in
+    rw (← simp (to_z-of_z, f.budget) at c.between.ensures) (c.line.ensures [] no_line)
