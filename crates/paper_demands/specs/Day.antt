@@ -73,6 +73,7 @@ module _ (demands : Demands) where
       none_is_one (Memᴰ.tail (Memᴰ.head e)) = omega (arith, e)
       none_is_one (Memᴰ.tail (Memᴰ.tail (Memᴰ.head e))) = omega (arith, e)
       none_is_one (Memᴰ.tail (Memᴰ.tail (Memᴰ.tail (Memᴰ.head e)))) = omega (arith, e)
+      none_is_one (Memᴰ.tail (Memᴰ.tail (Memᴰ.tail (Memᴰ.tail m)))) = elim m [ ]
 
   -- some cut is refused for its window
   pub cut_windowless : (b : Board) × (q : Request) × (sort_of q ≡ a-cut) × (refusal b q ≡ some 6)
