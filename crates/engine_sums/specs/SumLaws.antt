@@ -194,7 +194,7 @@ module _ {s : Side} {times lengths : List ℤ} {set : ℕ} where
           let other : y ≢ k = λ same. let at = subst (λ j. bound_at s times q.first ≤ℤ bound_at s times j) same l in refuted e (omega whole) in
           without_other job_limit left k p.fits width y other ∙ on y i l
 
-  strike_all : {left kept : ℕ} {best : ℤ} → Lengths lengths → InPlay s times lengths set left best → Strikes s times lengths best left kept
+  strike_all : {left : ℕ} {best : ℤ} {kept : ℕ} → Lengths lengths → InPlay s times lengths set left best → Strikes s times lengths best left kept
       → InPlay s times lengths set kept best
   strike_all work p none_struck = p
   strike_all work p (struck w k before width member under) = strike_one work (strike_all work p before) k width under
