@@ -47,15 +47,15 @@ PairTested i k valids after before onward late t =
 module _ (v : View) (i k valids after before onward : ℕ) (late : Bool)
     (h : PairRead v i k valids after before onward late) where
   excluded : Decides (bit after k && bit before k && bit valids i) ((Arc v i k × Arc v k i) × Valid v i)
-  excluded = h.after-bit k and h.before-bit k and h.valid-bit i
+  excluded = h.after_bit k and h.before_bit k and h.valid_bit i
 
   ordered : Decides (late && not (bit before k)) ((D v k <ℤ (E v i +ℤ L v i +ℤ L v k)) × (Arc v k i → ⊥))
-  ordered = retested h.is-late (earlier (D v k) (E v i +ℤ L v i +ℤ L v k)) and negated (h.before-bit k)
+  ordered = retested h.is_late (earlier (D v k) (E v i +ℤ L v i +ℤ L v k)) and negated (h.before_bit k)
 
   joined : (w : ℕ) → Unjoined i k valids after onward w → (c : ℕ)
       → Decides (bit w c) ((Valid v k × Arc v i k) × ((Arc v k c × (i ≢ c)) × (Arc v i c → ⊥)))
   joined w u c = retested (u.members c)
-      (h.valid-bit k and h.after-bit k and (h.onward-bit c and negated (eq i c) and negated (h.after-bit c)))
+      (h.valid_bit k and h.after_bit k and (h.onward_bit c and negated (eq i c) and negated (h.after_bit c)))
 
 module _ (i k valids after before onward : ℕ) (late : Bool) where
   abbrev Says : Option Fact → Type 0
