@@ -1,0 +1,10 @@
+-- `text_numerals::is_digit` meets its contract. Assumes nothing.
+use Prim.Native.Char.{code}
+use borrow.Author.Tests.{le-leb, lt-leb}
+use Rattle.text_numerals.proofs.is_digit.Goals as goal
+
+pub returns-then-byte-ge48 : goal.returns-then-byte-ge48
+returns-then-byte-ge48 c = rw (le-leb (code "0") _ c.if-byte-ge48.true)
+
+pub returns-else-byte-ge48 : goal.returns-else-byte-ge48
+returns-else-byte-ge48 c = rw (lt-leb (code "0") _ c.if-byte-ge48.false)
