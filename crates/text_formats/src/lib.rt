@@ -8,9 +8,9 @@ ghost use Rattle.text_formats.specs.Format.{filled, marks, natural_mark, number_
 use text_decimals::{put_byte, put_natural, put_number};
 
 pub fn print(out: &mut [u8], at: usize, format: &[u8], naturals: &[u64], numbers: &[i32]) -> usize
-    requires format_in_bounds { marks natural_mark format.now ≤ length naturals.now }
-    requires format_in_bounds_2 { marks number_mark format.now ≤ length numbers.now }
-    requires format_in_bounds_3 { at + room format.now ≤ length out.old }
+    requires naturals_enough { marks natural_mark format.now ≤ length naturals.now }
+    requires numbers_enough { marks number_mark format.now ≤ length numbers.now }
+    requires room_enough { at + room format.now ≤ length out.old }
     ensures { Written out.old at out.new result (filled format.now naturals.now numbers.now) (room format.now) }
 {
     if format.len() == 0 {
