@@ -1,18 +1,15 @@
 -- `engine_places::fits` meets its contract: each test is asked where those before it hold. Assumes nothing.
 use mathlib.Core.Path.{◌≡◌, ◌∙◌}
 use mathlib.Core.Bool.{◌&&◌}
-use mathlib.Core.Logic.{⊎_elim}
 use mir.ValLaws.{to_z-of_z}
-use borrow.Author.Rules.{rules}
 use Rattle.ground_arithmetic.specs.Bools.{and_asked, and_unasked}
 use Rattle.paper_board.specs.Paper.Tests.{is_length, is_time}
 use Rattle.engine_places.proofs.fits.Goals as goal
 use Rattle.engine_places.proofs.fits.Goals.{Joined-is_length, else-is_length, then-is_length}
 
 -- the first two tests
--- MANUAL helper
 joined : (c : Joined-is_length)
-    → c.if-is_length.if2 ≡ (is_length c.args.length && is_time c.args.earliest)
+    → c.if-is_length.value ≡ (is_length c.args.length && is_time c.args.earliest)
 joined c =
     let f = c.ranges in
     let first = simp (to_z-of_z, f.length) at c.is_length.ensures in

@@ -1,7 +1,6 @@
 -- `engine_places::is_zero` meets its contract: a number from 0 to 0 is 0. Assumes nothing.
 use mathlib.Core.Path.{◌∙◌}
 use mir.ValLaws.{to_z-of_z}
-use borrow.Author.Rules.{rules}
 use Rattle.engine_places.specs.Place.{zero_between}
 use Rattle.engine_places.proofs.is_zero.Goals as goal
 

@@ -3,7 +3,6 @@ use mathlib.Core.Path.{◌≡◌, ap}
 use mathlib.Core.Bool.{◌&&◌}
 use lib.Dec.{eqb}
 use mir.ValLaws.{to_z-of_z}
-use borrow.Author.Rules.{rules}
 use Rattle.ground_arithmetic.specs.Bools.{and_asked, and_unasked}
 use Rattle.paper_board.specs.BoardTests.WithinLimits.{is_zero}
 use Rattle.engine_places.proofs.is_zero_place.Goals as goal

@@ -1,18 +1,15 @@
 -- `engine_places::is_zero_row` meets its contract: each test is asked where those before it hold. Assumes nothing.
 use mathlib.Core.Path.{◌≡◌, ◌∙◌}
 use mathlib.Core.Bool.{◌&&◌}
-use mathlib.Core.Logic.{⊎_elim}
 use mir.ValLaws.{to_z-of_z}
-use borrow.Author.Rules.{rules}
 use Rattle.ground_arithmetic.specs.Bools.{and_asked, and_unasked}
 use Rattle.paper_board.specs.BoardTests.WithinLimits.{is_zero}
 use Rattle.engine_places.proofs.is_zero_row.Goals as goal
 use Rattle.engine_places.proofs.is_zero_row.Goals.{Joined-is_zero, else-is_zero, then-is_zero}
 
 -- the first two tests
--- MANUAL helper
 joined : (c : Joined-is_zero)
-    → c.if-is_zero.if2 ≡ (is_zero c.args.length && is_zero c.args.earliest)
+    → c.if-is_zero.value ≡ (is_zero c.args.length && is_zero c.args.earliest)
 joined c =
     let f = c.ranges in
     let first = simp (to_z-of_z, f.length) at c.is_zero.ensures in

@@ -3,7 +3,6 @@
 use mathlib.Core.Path.{ap}
 use native.Mathlib.Omega.{arith}
 use mir.ValLaws.{to_z-of_z}
-use borrow.Author.Rules.{rules}
 use Rattle.paper_board.specs.Paper.View.{Row}
 use Rattle.paper_board.specs.BoardTests.Decides.{restated, eq, lt}
 use Rattle.engine_places.specs.Place.{place_blank, place_invalid, place_live}
