@@ -44,16 +44,16 @@ module _ {b : Board} {i lives valids before after : ℕ} {end : ℤ} {latest len
   live_bit x = retested (h.is_live x) (live_is v x)
 
   valid_bit : (x : ℕ) → Decides (bit valids x) (Valid v x)
-  valid_bit x = retested (h.is-valid x) (valid_is v x)
+  valid_bit x = retested (h.is_valid x) (valid_is v x)
 
   after_bit : (x : ℕ) → Decides (bit after x) (Arc v i x)
-  after_bit x = retested (ap (λ w. bit w x) h.is-after) (holds (v.arc i x))
+  after_bit x = retested (ap (λ w. bit w x) h.is_after) (holds (v.arc i x))
 
   before_bit : (x : ℕ) → Decides (bit before x) (Arc v x i)
-  before_bit x = retested (ap (λ w. bit w x) h.is-before ∙ h.within.twice x i) (holds (v.arc x i))
+  before_bit x = retested (ap (λ w. bit w x) h.is_before ∙ h.within.twice x i) (holds (v.arc x i))
 
   onward_bit : (k x : ℕ) → Decides (bit (get_or afters k 0) x) (Arc v k x)
-  onward_bit k x = retested (ap (λ ws. bit (get_or ws k 0) x) h.is-afters) (holds (v.arc k x))
+  onward_bit k x = retested (ap (λ ws. bit (get_or ws k 0) x) h.is_afters) (holds (v.arc k x))
 
   -- what the search reads at a pair of the row
   pub pair_read : (k : ℕ) → Live v k × (i ≢ k) → (late : Bool) → late ≡ lt_z (get_or latest k (pos 0)) (end +ℤ get_or lengths k (pos 0))
@@ -68,7 +68,7 @@ module _ {b : Board} {i lives valids before after : ℕ} {end : ℤ} {latest len
         after_bit = after_bit;
         before_bit = before_bit;
         onward_bit = onward_bit k;
-        is_late = is_late ∙ rw (h.is-latest, h.is-lengths, h.is-end);
+        is_late = is_late ∙ rw (h.is_latest, h.is_lengths, h.is_end);
       }
 
   one_valid : (k : ℕ) → (bit valids i ≡ true) ⊎ (bit valids k ≡ true) → Valid v i ⊎ Valid v k
@@ -77,7 +77,7 @@ module _ {b : Board} {i lives valids before after : ℕ} {end : ℤ} {latest len
   order_settled : (k : ℕ) → OrderKnown latest lengths i valids before after end k → D v k <ℤ (E v i +ℤ L v i +ℤ L v k)
       → Arc v k i ⊎ (Arc v i k × (Valid v i ⊎ Valid v k))
   order_settled k (inl in_time) l =
-      let now = rw (h.is-end, h.is-latest, h.is-lengths) at in_time in
+      let now = rw (h.is_end, h.is_latest, h.is_lengths) at in_time in
       absurd (omega (whole, now, l))
   order_settled k (inr (inl e)) l = inl ((before_bit k).yes e)
   order_settled k (inr (inr (e, one))) l = inr ((after_bit k).yes e, one_valid k one)
