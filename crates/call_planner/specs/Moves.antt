@@ -66,9 +66,9 @@ module _ (b : Board) (h : Within b) where
         let (n, count) = some_waits b w (stack (at jobs) (suc d)) s'.waiting waits in
         let now = tried_all v o (ending b) t n (stack (at jobs) (suc d)) 0 _ (rw count at s'.so_far) (no_members b) in
         record {
-          jobs_shape = s.jobs-shape;
-          lefts_shape = s.lefts-shape;
-          frees_shape = s.frees-shape;
+          jobs_shape = s.jobs_shape;
+          lefts_shape = s.lefts_shape;
+          frees_shape = s.frees_shape;
           placements = λ i l. s'.placements i (omega arith);
           waiting = waiting_back b w (at jobs d) (stack (at jobs) d) s'.waiting last.job;
           untried = last.untried;
@@ -97,9 +97,9 @@ module _ (b : Board) (h : Within b) where
           let next = least_first b ps s.untried taken in
           let now = not_placed v o (ending b) t n ps left _ (rw count at s.so_far) j rest next fails in
           record {
-            jobs_shape = s.jobs-shape;
-            lefts_shape = s.lefts-shape;
-            frees_shape = s.frees-shape;
+            jobs_shape = s.jobs_shape;
+            lefts_shape = s.lefts_shape;
+            frees_shape = s.frees_shape;
             placements = s.placements;
             waiting = s.waiting;
             untried = later;
@@ -128,10 +128,10 @@ module _ (b : Board) (h : Within b) where
         same_stack d l = stack_same _ _ d λ i less. earlier jobs j 0 i (omega arith)
 
         last_job : at jobs' depth ≡ j
-        last_job = get_or-set_same jobs depth j 0 (omega (arith, room, s.jobs-shape))
+        last_job = get_or-set_same jobs depth j 0 (omega (arith, room, s.jobs_shape))
 
         last_left : at lefts' depth ≡ rest
-        last_left = get_or-set_same lefts depth rest 0 (omega (arith, room, s.lefts-shape))
+        last_left = get_or-set_same lefts depth rest 0 (omega (arith, room, s.lefts_shape))
 
         longer : stack (at jobs') (suc depth) ≡ j ∷ stack (at jobs) depth
         unfolding stack
@@ -152,7 +152,7 @@ module _ (b : Board) (h : Within b) where
                   last_job,
                   last_left,
                   same_stack depth (omega arith),
-                  get_or-set_same frees depth free (pos 0) (omega (arith, room, s.frees-shape)),
+                  get_or-set_same frees depth free (pos 0) (omega (arith, room, s.frees_shape)),
                 )
                 (record { job = due; untried = later; dock = s.dock; ends = placed_in_time })
             go (no ne) =
@@ -181,9 +181,9 @@ module _ (b : Board) (h : Within b) where
             let deeper : depth + 1 ≡ suc depth = omega arith in
             rw deeper
             record {
-              jobs_shape = length-set jobs depth j ∙ s.jobs-shape;
-              lefts_shape = length-set lefts depth _ ∙ s.lefts-shape;
-              frees_shape = length-set frees depth free ∙ s.frees-shape;
+              jobs_shape = length-set jobs depth j ∙ s.jobs_shape;
+              lefts_shape = length-set lefts depth _ ∙ s.lefts_shape;
+              frees_shape = length-set frees depth free ∙ s.frees_shape;
               placements = stored;
               waiting = rw longer wait;
               untried = λ k m. rw longer ((wait k).yes m);

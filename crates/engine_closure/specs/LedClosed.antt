@@ -125,7 +125,7 @@ module _ {n : ℕ} {lengths₀ earliest₀ latest₀ : List ℤ} {marks₀ after
   searched : OnArrays (λ b. Searched (view b) (Obeys (view b)) o) n lengths earliest latest marks after before
   searched b jobs within =
       let at = filled b lengths earliest latest marks after before in
-      found at (board_read at within (rw (← jobs) at h.is_live) (rw (← jobs) at h.is-valid))
+      found at (board_read at within (rw (← jobs) at h.is_live) (rw (← jobs) at h.is_valid))
 
   -- nothing is found
   pub led_closed : o ≡ none → Alters n closure lengths₀ earliest₀ latest₀ marks₀ after₀ before₀ true lengths earliest latest marks after before

@@ -51,7 +51,7 @@ module _ (earliest latest lengths : List ℤ) (before after : List ℕ) where
   detected first second before' after' late e d =
       sound_link (Pair first second earliest latest lengths) before after before after (sound_none (Pair first second earliest latest lengths) before after)
       second first before' after' e d λ b h p derived.
-      let test = rw (← p.read.is-latest, ← p.read.is-lengths, ← p.read.is-earliest) at late in
+      let test = rw (← p.read.is_latest, ← p.read.is_lengths, ← p.read.is_earliest) at late in
       r3 first second p.live.0 p.live.1 p.differ (omega (whole, test))
 
   -- the same pair, named the other way round
@@ -66,7 +66,7 @@ module _ (earliest latest lengths : List ℤ) (before after : List ℕ) where
       → Sound (Beside job others earliest latest lengths) before after before'' after''
   beside_more job others before' after' run k member before'' after'' rest =
       sound_then (Beside job others earliest latest lengths) before after before' after' run (Pair job k earliest latest lengths) before'' after'' rest
-      λ b h p derived. let (live, ne) = p.beside k member in record { live = (p.live, live); differ = ne; read = record { is_earliest = p.read.is-earliest; is_latest = p.read.is-latest; is_lengths = p.read.is-lengths } }
+      λ b h p derived. let (live, ne) = p.beside k member in record { live = (p.live, live); differ = ne; read = record { is_earliest = p.read.is_earliest; is_latest = p.read.is_latest; is_lengths = p.read.is_lengths } }
 
   -- one job more that is due, with the others that are not kept apart from it
   pub job_detected : (due others : ℕ) → others < 2 ^ job_limit → (before' after' : List ℕ) → Sound (Meeting due others earliest latest lengths) before after before' after'
@@ -83,7 +83,7 @@ module _ (earliest latest lengths : List ℤ) (before after : List ℕ) where
             (retested (bit_without job_limit others job k width place) (holds (bit others k) and negated (eq job k)) and negated (holds (bit apart k))) in
             let ((live, ne), _) = tests.yes (rw e at m) in
             (p.beside k live, ne);
-        read = record { is_earliest = p.read.is-earliest; is_latest = p.read.is-latest; is_lengths = p.read.is-lengths };
+        read = record { is_earliest = p.read.is_earliest; is_latest = p.read.is_latest; is_lengths = p.read.is_lengths };
       }
 
   -- jobs that are due, and others, all of them live

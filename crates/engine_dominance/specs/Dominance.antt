@@ -68,10 +68,10 @@ module _ (v : View) (s : Side) (p j : ℕ) (shared : (k : ℕ) → Valid v k →
 module _ {b : Board} {s : Side} {times lengths : List ℤ} {beyond : List ℕ} {valids : ℕ} (h : SideRead b s times lengths beyond valids) where
   pub represented : (done j r : ℕ) → ((k : ℕ) → bit done k ≡ true → SideSettled (view b) s k) → Represents s times beyond valids done j r
       → Represented (view b) s r j
-  represented done j r settled (_, serves) other = go (rw (h.is-times, h.is-beyond) at (serves other))
+  represented done j r settled (_, serves) other = go (rw (h.is_times, h.is_beyond) at (serves other))
     where
       pushes : (k : ℕ) → Valid (view b) k → Beyond (view b) s k j → bit (pushing (side_words b s) valids j) k ≡ true
-      pushes k valid far = (pushing_bit b h.within valids h.is-valid s j k).show (valid, far)
+      pushes k valid far = (pushing_bit b h.within valids h.is_valid s j k).show (valid, far)
 
       go : let w = pushing (side_words b s) valids j in
           (w ≡ 0) ⊎ ((bit done r ≡ true) × Dominated s w (get_or (side_words b s) r 0) (get_or (times_of b s) j (pos 0)) (get_or (times_of b s) r (pos 0)))

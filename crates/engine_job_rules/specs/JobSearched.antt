@@ -108,7 +108,7 @@ module _ (b : Board) (h : Within b) (valids : ℕ) (is_valid : (x : ℕ) → bit
 pub side_searched : {s : Side} {j r : ℕ} {times lengths : List ℤ} {beyond : List ℕ} {valids : ℕ} (o : Option ℤ)
     → BoundBeyond s times lengths beyond valids j o → SideSearched s j r times lengths beyond valids (told s j o)
 side_searched {s} {j} {valids = valids} o g b h live _ =
-    side_says b h.within valids h.is-valid s j live o (rw (h.is-times, h.is-lengths, h.is-beyond) at g)
+    side_says b h.within valids h.is_valid s j live o (rw (h.is_times, h.is_lengths, h.is_beyond) at g)
 
 -- ---- a job
 
@@ -135,14 +135,14 @@ JobSearched i p q earliest latest lengths before after valids o =
 module _ {b : Board} {earliest latest lengths : List ℤ} {before after : List ℕ} {valids : ℕ} (h : JobRead b earliest latest lengths before after valids) where
   pub read_early : SideRead b early earliest lengths before valids
   read_early =
-      record { within = h.within; is_times = h.is-earliest; is_lengths = h.is-lengths; is_beyond = h.is-before; is_valid = h.is-valid }
+      record { within = h.within; is_times = h.is_earliest; is_lengths = h.is_lengths; is_beyond = h.is_before; is_valid = h.is_valid }
 
   pub read_late : SideRead b late latest lengths after valids
   read_late =
-      record { within = h.within; is_times = h.is-latest; is_lengths = h.is-lengths; is_beyond = h.is-after; is_valid = h.is-valid }
+      record { within = h.within; is_times = h.is_latest; is_lengths = h.is_lengths; is_beyond = h.is_after; is_valid = h.is_valid }
 
   pub room_is : (i : ℕ) → le_z (get_or earliest i (pos 0) +ℤ get_or lengths i (pos 0)) (get_or latest i (pos 0)) ≡ roomy (row_of b i)
-  room_is i = rw (h.is-earliest, h.is-latest, h.is-lengths)
+  room_is i = rw (h.is_earliest, h.is_latest, h.is_lengths)
 
 module _ (b : Board) (i : ℕ) (live : Live (view b) i) where
   -- R6

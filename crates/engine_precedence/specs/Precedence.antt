@@ -98,9 +98,9 @@ times_are late b times = refl
 same_rest : (s : Side) (b : Board) (times times' : List ℤ) (fixed lengths : List ℤ) (beyond : List ℕ) (valids : ℕ)
     → PrecedenceRead s fixed lengths beyond valids (with_times s b times) → PrecedenceRead s fixed lengths beyond valids (with_times s b times')
 same_rest early b times times' fixed lengths beyond valids r =
-    record { is_fixed = r.is-fixed; is_lengths = r.is-lengths; is_beyond = r.is-beyond; sound = r.sound }
+    record { is_fixed = r.is_fixed; is_lengths = r.is_lengths; is_beyond = r.is_beyond; sound = r.sound }
 same_rest late b times times' fixed lengths beyond valids r =
-    record { is_fixed = r.is-fixed; is_lengths = r.is-lengths; is_beyond = r.is-beyond; sound = r.sound }
+    record { is_fixed = r.is_fixed; is_lengths = r.is_lengths; is_beyond = r.is_beyond; sound = r.sound }
 
 module _ (s : Side) (fixed lengths : List ℤ) (beyond : List ℕ) (valids : ℕ) (times : List ℤ) where
   pub raises_none : Raises s (PrecedenceRead s fixed lengths beyond valids) times times
@@ -116,10 +116,10 @@ module _ (s : Side) (fixed lengths : List ℤ) (beyond : List ℕ) (valids : ℕ
       let c = with_times s b times' in
       let rest = same_rest s b times times' fixed lengths beyond valids p in
       let pushed : Pushes s (times_of c s) c.lengths (pushing (side_words c s) valids j) j (some (turned s t)) =
-      rw (times_are s b times', rest.is-lengths, rest.is-beyond) push in
+      rw (times_are s b times', rest.is_lengths, rest.is_beyond) push in
       let (live, infers) = pushes_infers c derived.more.within valids rest.sound s j (turned s t) pushed in
       let above = is_true (lt_z (bound_at s times' j) (turned s t)) (λ e. omega (whole, push.1)) in
-      let same = moved s b times' j t live above (rw (rest.is-fixed, rest.is-lengths) fits) in
+      let same = moved s b times' j t live above (rw (rest.is_fixed, rest.is_lengths) fits) in
       subst (Derives (with_times s b times)) same (derives_further (with_times s b times) c derived (is_bound s j (turned s t)) infers)
 
   pub shuts_none : Shuts s (PrecedenceRead s fixed lengths beyond valids) times 0
@@ -132,9 +132,9 @@ module _ (s : Side) (fixed lengths : List ℤ) (beyond : List ℕ) (valids : ℕ
   shuts_job j t push full it e b h p =
       let c = with_times s b times in
       let pushed : Pushes s (times_of c s) c.lengths (pushing (side_words c s) valids j) j (some (turned s t)) =
-      rw (times_are s b times, p.is-lengths, p.is-beyond) push in
+      rw (times_are s b times, p.is_lengths, p.is_beyond) push in
       let (live, infers) = pushes_infers c h valids p.sound s j (turned s t) pushed in
-      let gone : Gone c j = gone_short c s j t live infers (short s c j t (rw (p.is-fixed, p.is-lengths) full)) in
+      let gone : Gone c j = gone_short c s j t live infers (short s c j t (rw (p.is_fixed, p.is_lengths) full)) in
       record { gone = λ x m. subst (Gone c) (only j x (rw e at m)) gone }
 
   -- one run after another

@@ -101,13 +101,13 @@ row_read h i live end e =
       within = a.within;
       here = live;
       is_live = h.is_live;
-      is_valid = a.is-valid;
-      is_before = ap (λ ws. get_or ws i 0) a.is-before;
-      is_after = ap (λ ws. get_or ws i 0) a.is-after;
-      is_end = rw (a.is-earliest, a.is-lengths) at e;
-      is_latest = a.is-latest;
-      is_lengths = a.is-lengths;
-      is_afters = a.is-after;
+      is_valid = a.is_valid;
+      is_before = ap (λ ws. get_or ws i 0) a.is_before;
+      is_after = ap (λ ws. get_or ws i 0) a.is_after;
+      is_end = rw (a.is_earliest, a.is_lengths) at e;
+      is_latest = a.is_latest;
+      is_lengths = a.is_lengths;
+      is_afters = a.is_after;
     }
 
 -- where the pairs are settled, what is found at the jobs is found in the whole view
