@@ -29,7 +29,7 @@ returns c =
     let a = c.args in
     let end_fits : SFits w32 a.earlier.end = search rules in
     let fits : a.earlier.left < 2 ^ job_limit = search rules in
-    let member : bit a.earlier.left a.k ≡ true = sym c.has.ensures ∙ c.if-not-has.false in
+    let member : bit a.earlier.left a.k ≡ true = cc in
     let low = to_z-of_z w32 _ (record { sfits = c.bound-low.type_inv }) ∙ c.bound-low.ensures in
     let after = to_z-of_z w32 _ (record { sfits = c.greater-after.type_inv }) ∙ (rw low at (simp (to_z-of_z, end_fits) at c.greater-after.ensures)) in
     let end = to_z-of_z w32 _ (record { sfits = c.sum-end.type_inv }) ∙ (rw after at (simp (to_z-of_z, length_fits work a.k) at c.sum-end.ensures)) in
