@@ -20,8 +20,7 @@ returns-in-Unbounded c = λ _.
     let end_is = to_z-of_z w32 _ (record { sfits = c.end.type_inv }) ∙ c.end.ensures in
     let together = to_z-of_z w32 _ (record { sfits = c.sum-together.type_inv }) ∙ (rw (end_is, load_back work _ _ c.whole-all.ensures.comes.loaded) at c.sum-together.ensures) in
     let low = to_z-of_z w32 _ (record { sfits = c.turned.type_inv }) ∙ simp (to_z-of_z, c.ranges.floor) at c.turned.ensures in
-    let test = rw (low, together) at c.if-turned-together.false in
     record {
-      together = omega (whole, test);
+      together = omega (whole, low, together);
       sums = simp (to_z-of_z, c.ranges.floor) at (rw (ap (bound_of (side_of c.args.side)) c.in-Unbounded.is) at c.energy_bound-bound.ensures);
     }
