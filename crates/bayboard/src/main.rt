@@ -1,8 +1,6 @@
 // The program `bayboard`: a text on standard input, its answers on standard output.
 #![tactic(auto)]
 
-use libc::STDIN_FILENO;
-
-fn main() {
-    program_console::run(STDIN_FILENO);
+fn main(rt: HostRuntime) {
+    program_console::run(&rt, &mut rt.stdin());
 }

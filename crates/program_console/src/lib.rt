@@ -1,11 +1,14 @@
-// A text from a descriptor, answered on standard output.
+// A text from a reader, answered to a writer.
 #![tactic(auto)]
 
 ghost use Rattle.std.specs.Prelude.{◌≡◌, true, ◌≤◌, length};
+ghost use Rattle.std.specs.Io.KnownBytes.{Appends};
+ghost use Rattle.text_answers.specs.Paper.Text.{output};
+ghost use Rattle.text_answers.specs.Paper.Text as paper;
 ghost use Rattle.text_pieces.specs.Pieces.{Whole};
 
-use libc::{STDERR_FILENO, STDOUT_FILENO};
 use paper_board::Board;
+use std::io::{self, Read, Write};
 
 // One byte more than a text may have, so that a longer one shows.
 const ROOM: usize = text_pieces::LOAD + 1;
@@ -18,23 +21,28 @@ struct Input {
 }
 
 // One read: no bytes at the end of the input.
-fn read_some(fd: i32, buffer: &mut [u8]) -> Input
+fn read_some<R: Read>(reader: &mut R, buffer: &mut [u8]) -> Input
     ensures { result.length ≤ length buffer.new }
 {
-    let got = libc::read(fd, buffer);
-    Input {
-        complete: 0 <= got,
-        length: io::count(got, buffer),
+    match reader.read(buffer) {
+        Ok(length) => Input {
+            complete: true,
+            length,
+        },
+        Err(_) => Input {
+            complete: false,
+            length: 0,
+        },
     }
 }
 
 // Reads until the buffer is full or the input ends, in pieces as small as they come.
-fn read_all(fd: i32, buffer: &mut [u8]) -> Input
+fn read_all<R: Read>(reader: &mut R, buffer: &mut [u8]) -> Input
     ensures { result.length ≤ length buffer.new }
 {
     let mut count = 0;
     while count < buffer.len() {
-        let some = read_some(fd, &mut buffer[count..]);
+        let some = read_some(reader, &mut buffer[count..]);
         if !some.complete {
             return Input {
                 complete: false,
@@ -63,18 +71,20 @@ pub struct Served {
     pub board: Board,
 }
 
-// Answers a text, in pieces as large as the buffer. No contract can say which bytes a write takes, so that this one speaks of the board, and
-// of pieces that are the whole output; that the next of them is in the buffer at each write is the loop's invariant (`Buffered`).
-pub fn serve_text(bytes: &[u8]) -> Served
-    ensures { result.complete ≡ true → Whole bytes.now result.board }
+// Answers a text, in pieces as large as the buffer: the board after it, pieces that are the whole output, and that a writer that tells what it
+// holds was given that output. Of standard output no contract can say which bytes it took, so that the next piece is in the buffer at each
+// write is also the loop's invariant (`Buffered`).
+pub fn serve_text<W: Write>(writer: &mut W, bytes: &[u8]) -> Served
+    ensures whole { result.complete ≡ true → Whole bytes.now result.board }
+    ensures written { result.complete ≡ true → Appends (W.contents writer.old) (W.contents writer.new) (output (paper.serve_text bytes.now).replies) }
 {
-    let mut out = io::large_buffer();
+    let mut out = [0u8; 65536];
     let first = text_pieces::start(bytes, &mut out);
     let mut board = first.board;
     let mut written = first.written;
     let read = first.read;
     let mut rest = &bytes[read..];
-    while io::write_all(STDOUT_FILENO, &out[0..written]) {
+    while writer.write_all(&out[0..written]).is_ok() {
         if rest.len() == 0 {
             return Served {
                 complete: true,
@@ -94,16 +104,16 @@ pub fn serve_text(bytes: &[u8]) -> Served
 }
 
 // Reads a text, answers it, and says on standard error what failed, if anything.
-pub fn run(fd: i32) {
+pub fn run<R: Read>(rt: &(impl Print + Eprint), reader: &mut R) {
     let mut buffer = [0u8; ROOM];
-    let input = read_all(fd, &mut buffer);
+    let input = read_all(reader, &mut buffer);
     if !input.complete {
-        io::write_all(STDERR_FILENO, b"the text could not be read\n");
+        let _ = eprintln!(rt; "the text could not be read");
         return;
     }
     let length = input.length;
-    let served = serve_text(&buffer[0..length]);
+    let served = serve_text(&mut io::writer(rt), &buffer[0..length]);
     if !served.complete {
-        io::write_all(STDERR_FILENO, b"the answers could not be written\n");
+        let _ = eprintln!(rt; "the answers could not be written");
     }
 }

@@ -1,25 +1,23 @@
 // Texts by file, each answered as `bayboard` does, after a line with the file's name.
 #![tactic(auto)]
 
-use libc::STDOUT_FILENO;
+use std::fs::File;
+use std::{env, io};
 
-fn case(k: usize) {
-    let mut path = io::buffer();
-    let length = os::arg(k, &mut path);
-    let name = &path[0..length];
-    let fd = os::open_read(name);
-    if fd < 0 {
-        os::fail(name);
-        return;
+fn case(rt: &HostRuntime, name: &str) -> io::Result<()> {
+    match File::open(rt, name) {
+        Ok(mut file) => {
+            println!(rt; "{name}")?;
+            program_console::run(rt, &mut file);
+            Ok(())
+        }
+        Err(e) => eprintln!(rt; "{name}: {e}"),
     }
-    io::write_all(STDOUT_FILENO, name);
-    io::write_all(STDOUT_FILENO, b"\n");
-    program_console::run(fd);
-    libc::close(fd);
 }
 
-fn main() {
-    for k in 1..os::arg_count() {
-        case(k);
+fn main(rt: HostRuntime) -> io::Result<()> {
+    for name in env::args(&rt)?.skip(1) {
+        case(&rt, name.as_str())?;
     }
+    Ok(())
 }

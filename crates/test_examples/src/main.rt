@@ -5,12 +5,14 @@ mod call;
 mod case;
 mod marked;
 
-fn main() {
-    marked::lengths();
-    marked::energy();
-    marked::orders();
-    marked::joins();
-    marked::exclusion();
-    case::whole();
-    case::plans();
+use std::io;
+
+fn main(rt: HostRuntime) -> io::Result<()> {
+    marked::lengths(&rt)?;
+    marked::energy(&rt)?;
+    marked::orders(&rt)?;
+    marked::joins(&rt)?;
+    marked::exclusion(&rt)?;
+    case::whole(&rt)?;
+    case::plans(&rt)
 }

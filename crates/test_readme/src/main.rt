@@ -5,15 +5,16 @@ use call_dock::Dock;
 use paper_board::Board;
 use paper_entries::Entered;
 use paper_plans::Planned;
+use std::io;
 
-fn main() {
+fn main(rt: HostRuntime) -> io::Result<()> {
     let board = Board::empty();
     let entered: Entered = Dock { board }.addition(45, 360, 480, 1); // length, E, D, mark
     let answer = entered.answer; // Added(0)
     let board = entered.board; // a field is copied before it goes on
     let row = Dock { board }.row(0); // mark 1, E 360, D 480, before 0, after 0
     let planned: Planned = Dock { board }.plan(100); // Found(1): job 0 at 360
-    test_writing::answer(answer);
-    test_writing::row(0, row);
-    test_writing::plan(planned);
+    test_writing::answer(&rt, answer)?;
+    test_writing::row(&rt, 0, row)?;
+    test_writing::plan(&rt, planned)
 }

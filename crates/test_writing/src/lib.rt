@@ -1,42 +1,42 @@
 // Answers in the paper's text, on standard output.
 #![tactic(auto)]
 
-use libc::STDOUT_FILENO;
 use paper_entries::{Answer, PairAnswer, RowAnswer};
 use paper_plans::Planned;
+use std::io;
 use text_plans::put_plan;
 use text_replies::{put_answer, put_pair, put_row, put_tally};
 
-pub fn text(bytes: &[u8]) {
-    io::write_all(STDOUT_FILENO, bytes);
+pub fn text(rt: &impl Print, bytes: &[u8]) -> io::Result<()> {
+    rt.write_all(bytes)
 }
 
-pub fn answer(answer: Answer) {
-    let mut out = io::buffer();
+pub fn answer(rt: &impl Print, answer: Answer) -> io::Result<()> {
+    let mut out = [0u8; 4096];
     let end = put_answer(&mut out, 0, answer);
-    text(&out[0..end]);
+    text(rt, &out[0..end])
 }
 
-pub fn row(job: i32, row: RowAnswer) {
-    let mut out = io::buffer();
+pub fn row(rt: &impl Print, job: i32, row: RowAnswer) -> io::Result<()> {
+    let mut out = [0u8; 4096];
     let end = put_row(&mut out, 0, job, row);
-    text(&out[0..end]);
+    text(rt, &out[0..end])
 }
 
-pub fn pair(pair: PairAnswer) {
-    let mut out = io::buffer();
+pub fn pair(rt: &impl Print, pair: PairAnswer) -> io::Result<()> {
+    let mut out = [0u8; 4096];
     let end = put_pair(&mut out, 0, pair);
-    text(&out[0..end]);
+    text(rt, &out[0..end])
 }
 
-pub fn plan(planned: Planned) {
-    let mut out = io::buffer();
+pub fn plan(rt: &impl Print, planned: Planned) -> io::Result<()> {
+    let mut out = [0u8; 4096];
     let end = put_plan(&mut out, 0, planned);
-    text(&out[0..end]);
+    text(rt, &out[0..end])
 }
 
-pub fn tally(tally: u32) {
-    let mut out = io::buffer();
+pub fn tally(rt: &impl Print, tally: u32) -> io::Result<()> {
+    let mut out = [0u8; 4096];
     let end = put_tally(&mut out, 0, tally);
-    text(&out[0..end]);
+    text(rt, &out[0..end])
 }
