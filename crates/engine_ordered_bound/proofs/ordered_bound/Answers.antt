@@ -12,7 +12,7 @@ pub decides-requires : goal.decides-requires
 decides-requires c =
     let (hours, work, _) = c.requires in
     let end_fits : SFits w32 c.in_order-sequence.result.end = search rules in
-    simp (to_z-of_z, end_fits) (hours, work, c.in_order-sequence.ensures.exceeds c.if-sequence-eq0.true)
+    simp (to_z-of_z, end_fits) (hours, work, c.in_order-sequence.ensures.exceeds (cc))
 
 pub above-requires : goal.above-requires
 above-requires c =
