@@ -33,7 +33,7 @@ module _ {o p : List ℕ} {i j n : ℕ} {a : Board} (b : Board) (f : Form) where
   unfolding carried_out
   entry_gives is said = rw (is, ← said) λ h. h
 
-  -- a form that looks at the board leaves it is
+  -- a form that looks at the board leaves it as it is
   module _ {k : ℕ} (same : (a ≡ b) × (j ≡ k)) where
     pub row_gives : {x : ℤ} {r : RowAnswer} → f ≡ Row x → SFits w32 x → r ≡ row b (held x)
         → Written o i p k (row_text (held x) (row_reply_of r)) n → Gives o i p j n a (carried_out b f)
