@@ -48,7 +48,7 @@ enum { BAYBOARD_UNDECIDED = 0, BAYBOARD_VALID = 1, BAYBOARD_INVALID = 2 };
 
 /* Why a call is refused. If several apply, the first is given. A refusal alters nothing, but for `impossible`, which counts
  * one in the tally. (10 and 11 belong to the text program alone.) Beside each call below stand the refusals that it has: no other
- * number occurs (crates/call_reply_numbers/specs/ReplyRefusals.antt), and each of them does (`Demand1.met` in crates/paper_demands/specs/Demands.antt). */
+ * number occurs (crates/call_reply_numbers/proofs/ReplyRefusals.antt), and each of them does (`Demand1.met` in crates/paper_demands/specs/Demands.antt). */
 enum {
     BAYBOARD_NO_BOARD = 0,      /* the board breaks a limit, keeps something twice that doesn't agree, or isn't closed */
     BAYBOARD_NO_FULL = 1,       /* an addition to 64 jobs */

@@ -1,4 +1,2 @@
--- The answers in numbers: what each case is, that nothing is lost, and which refusals occur.
+-- The answers in numbers: what each case is.
 pub mod ReplyNumbers
-pub mod AnswersBack
-pub mod ReplyRefusals

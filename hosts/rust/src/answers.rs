@@ -114,7 +114,7 @@ pub fn members(set: u64) -> impl Iterator<Item = usize> {
     (0..Board::JOBS).filter(move |job| set >> job & 1 == 1)
 }
 
-// No call replies another number: crates/call_reply_numbers/specs/ReplyRefusals.antt.
+// No call replies another number: crates/call_reply_numbers/proofs/ReplyRefusals.antt.
 fn refusal(number: u64) -> Refusal {
     match number {
         0 => Refusal::Board,
