@@ -1,0 +1,3 @@
+-- The answers in numbers: that nothing is lost, and which refusals occur.
+pub mod AnswersBack
+pub mod ReplyRefusals
