@@ -6,7 +6,7 @@ use Rattle.paper_board.specs.declared.Refusal.TheVariants as Refused
 use Rattle.paper_rules.specs.Update.ArraysWithin.{possibly}
 use Rattle.paper_rules.specs.Update.Updates.{◌and_then◌}
 use Rattle.paper_closure.specs.Passes.{passes}
-use Rattle.paper_closure.specs.PassesClosed.{closed_already}
+use Rattle.paper_closure.proofs.PassesClosed.{closed_already}
 use Rattle.paper_closure.specs.Closure.{closure}
 use Rattle.paper_entries.specs.declared.Answer.{Answer}
 use Rattle.paper_entries.specs.declared.Entered.{Entered}

@@ -6,10 +6,10 @@ use Rattle.paper_board.specs.Paper.Limits.{empty_board}
 use Rattle.paper_board.specs.Paper.Parts.{empty_books}
 use Rattle.paper_rules.specs.Order.Empty.{within_empty_books}
 use Rattle.paper_closure.specs.Passes.{passes}
-use Rattle.paper_closure.specs.PassesClosed as checked
+use Rattle.paper_closure.proofs.PassesClosed as checked
 use Rattle.paper_entries.specs.Paper.Entry.{Entry}
 use Rattle.paper_entries.specs.Paper.Enter.{enter}
-use Rattle.paper_entries.specs.Later.{call_later}
+use Rattle.paper_entries.proofs.Later.{call_later}
 use Rattle.call_reply_numbers.specs.ReplyNumbers.{replied}
 
 pub empty_board_passes : passes (empty_board empty_books) ≡ true

@@ -19,7 +19,7 @@ use Rattle.paper_plans.specs.Paper.Lists.{range, among}
 use Rattle.paper_plans.specs.Paper.Planner.{valid_jobs}
 use Rattle.paper_plans.specs.Paper.Tries.{ready, unplaced}
 use Rattle.paper_plans.specs.ListLaws.{among_first, among_rest, keep_same, keep_keep, none_kept, lowest_first}
-use Rattle.paper_plans.specs.PlanLaws.{valid_among, valid_distinct}
+use Rattle.paper_plans.proofs.PlanLaws.{valid_among, valid_distinct}
 use Rattle.paper_plans.specs.Unplaced.{ready_is, one_placed, all_placed}
 use Rattle.call_placements.specs.Stack.{members}
 

@@ -19,7 +19,7 @@ use Rattle.paper_plans.specs.Paper.Lists.{among, range}
 use Rattle.paper_plans.specs.Paper.Tries.{none, add}
 use Rattle.paper_plans.specs.Paper.Planner.{placed_word, start_list, unplanned, planned_within}
 use Rattle.paper_plans.specs.ListLaws.{none_among, kept_at_most, range_length}
-use Rattle.paper_plans.specs.PlanLaws.{placed_bit, found_in_budget, none_in_budget, beyond_budget}
+use Rattle.paper_plans.proofs.PlanLaws.{placed_bit, found_in_budget, none_in_budget, beyond_budget}
 use Rattle.paper_plans.specs.SearchReaches.{last_and_before}
 use Rattle.call_placements.specs.Stack.{stack, members, back, tried_all, try_due, all_found}
 use Rattle.call_placements.specs.Waiting.{order, waiting_fits, waiting_count, waiting_members, no_members, some_waits, least_first}

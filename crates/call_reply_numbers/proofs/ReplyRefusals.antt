@@ -19,7 +19,7 @@ use Rattle.paper_plans.specs.declared.PlanAnswer.TheVariants as Plans
 use Rattle.paper_plans.specs.declared.Planned.{Planned}
 use Rattle.paper_plans.specs.Paper.PlanReply.{plan_reply_of}
 use Rattle.paper_plans.specs.Paper.Planner
-use Rattle.paper_demands.specs.Demand1Holds.{demand1}
+use Rattle.paper_demands.proofs.Demand1Holds.{demand1}
 use Rattle.paper_requests.specs.Paper.Requests.{entry, row, pair, plan, a-row, a_pair, a-plan, sort_of, refusals_of, entry_refusal, row_refusal, pair_refusal, plan_refusal}
 use Rattle.call_reply_numbers.specs.ReplyNumbers.{reply_numbers, row_reply_numbers, pair_reply_numbers, plan_reply_numbers}
 

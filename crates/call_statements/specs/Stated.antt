@@ -17,9 +17,9 @@ use Rattle.paper_rules.specs.Update.Appended.{appended}
 use Rattle.paper_rules.specs.Update.Updated.{updated}
 use Rattle.engine_updates.specs.Applicable.{Applicable}
 use Rattle.paper_rules.specs.Inference.AboutMore.{about_more}
-use Rattle.paper_entries.specs.Allowed.{AllAboutJobs}
+use Rattle.paper_entries.proofs.Allowed.{AllAboutJobs}
 use Rattle.paper_entries.specs.ShowsEntry.{HoldAll}
-use Rattle.paper_entries.specs.RawShown.{updated_all}
+use Rattle.paper_entries.proofs.RawShown.{updated_all}
 use Rattle.paper_entries.specs.Paper.Enter.{update_all}
 use Rattle.call_statements.specs.declared.Stated.{Stated}
 use Rattle.call_statements.specs.declared.Stated.TheVariants.{Row, One, Two}

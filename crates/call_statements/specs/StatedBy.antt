@@ -12,8 +12,8 @@ use Rattle.paper_board.specs.BoardTests.Ranges.{time_moderate}
 use Rattle.paper_entries.specs.Paper.Entry.{Entry, addition, other, arc, mark, cut, number}
 use Rattle.paper_entries.specs.Paper.Checks.{checks, first_refusal}
 use Rattle.paper_entries.specs.Paper.Enter.{raw, update_all}
-use Rattle.paper_entries.specs.Allowed.{checks_allow}
-use Rattle.paper_entries.specs.CallNumbers.{pair_numbers, mark_numbers, cut_numbers}
+use Rattle.paper_entries.proofs.Allowed.{checks_allow}
+use Rattle.paper_entries.proofs.CallNumbers.{pair_numbers, mark_numbers, cut_numbers}
 use Rattle.call_statements.specs.declared.Stated.{Stated}
 use Rattle.call_statements.specs.declared.Stated.TheVariants.{Row, One, Two}
 use Rattle.call_statements.specs.Stated.{raw_of, Storable}

@@ -22,7 +22,7 @@ use Rattle.paper_rules.specs.Inference.AboutMore.{about_more}
 use Rattle.paper_closure.specs.Measure.{measure, measure_mono}
 use Rattle.engine_search.specs.Reads.{board_read}
 use Rattle.engine_closure.specs.InferredApplicable.{inferred_applicable}
-use Rattle.paper_closure.specs.DerivedClosure.{derives_closure, derived_closure, derived_next, derived_none}
+use Rattle.paper_closure.proofs.DerivedClosure.{derives_closure, derived_closure, derived_next, derived_none}
 
 -- what holds of every board of n jobs within its limits with these arrays
 abbrev OnArrays : (Board → Type 0) → ℕ → List ℤ → List ℤ → List ℤ → List ℕ → List ℕ → List ℕ → Type 0

@@ -11,7 +11,7 @@ use Rattle.paper_board.specs.Paper.View.{view, row_of, arc_of, arc_into_of, Live
 use Rattle.paper_board.specs.Paper.Limits.{job_limit, RowLimits, Shape, Within}
 use Rattle.paper_board.specs.BoardTests.WithinLimits.{within_limits}
 use Rattle.paper_board.specs.BoardTests.Decides.{Decides, restated, same_decision}
-use Rattle.paper_board.specs.BoardTests.LimitsDecided.{decides_limits, past, past_row}
+use Rattle.paper_board.proofs.LimitsDecided.{decides_limits, past, past_row}
 use Rattle.engine_agreement.specs.Agree.{Agree}
 use Rattle.engine_places.specs.Place.{row, Place, blank_limits}
 

@@ -12,7 +12,7 @@ use Rattle.paper_board.specs.Paper.Limits.{zero_row, RowLimits}
 use Rattle.paper_board.specs.Paper.Tests.{between, is_length, is_time}
 use Rattle.paper_board.specs.BoardTests.WithinLimits.{is_zero, is_zero_row, fits}
 use Rattle.paper_board.specs.BoardTests.Decides.{Decides, restated, same_decision, holds, negated, ◌and◌, eq}
-use Rattle.paper_board.specs.BoardTests.LimitsDecided.{decides_between, decides_zero, decides_fits, decides_zero_row}
+use Rattle.paper_board.proofs.LimitsDecided.{decides_between, decides_zero, decides_fits, decides_zero_row}
 
 -- ---- rows
 

@@ -2,7 +2,6 @@
 pub mod Live
 pub mod Decides
 pub mod WithinLimits
-pub mod LimitsDecided
 pub mod Ranges
 pub mod BoundTime
 pub mod Sets

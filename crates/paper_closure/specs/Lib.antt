@@ -7,10 +7,5 @@ pub mod Finds
 pub mod FindTests
 pub mod FindSound
 pub mod FindComplete
--- it ends, in the least closed board; and so does any other run of inferences
+-- each inference applied leaves less to infer
 pub mod Measure
-pub mod Closes
-pub mod DerivedClosure
-pub mod ClosureLeast
--- check 0 holds exactly of the closed boards
-pub mod PassesClosed

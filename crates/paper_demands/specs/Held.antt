@@ -10,7 +10,7 @@ use Rattle.paper_board.specs.Paper.Limits.{BooksWithin, empty_board}
 use Rattle.paper_rules.specs.Order.Empty.{within_empty, empty_obeys, empty_below}
 use Rattle.paper_entries.specs.Paper.Entry.{additions, Stated}
 use Rattle.paper_entries.specs.Paper.Sequence.{Call, final_board, accepted_by}
-use Rattle.paper_entries.specs.Played.{Held, played}
+use Rattle.paper_entries.proofs.Played.{Held, played}
 
 nothing_stated : (f : Fact) → Stated [] f → ⊥
 nothing_stated f s = Memᴰ.not-nil s.made

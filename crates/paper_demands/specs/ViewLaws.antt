@@ -12,7 +12,7 @@ use Rattle.paper_board.specs.Paper.View.{View, view, arc_of}
 use Rattle.paper_rules.specs.Paper.Rules.{E, D}
 use Rattle.paper_board.specs.BoardTests.Live.{live_yes, live_show}
 use Rattle.paper_closure.specs.Passes.{passes}
-use Rattle.paper_closure.specs.PassesClosed.{passes_within}
+use Rattle.paper_closure.proofs.PassesClosed.{passes_within}
 use Rattle.paper_entries.specs.CheckLines.{no_line, passes_on}
 use Rattle.paper_entries.specs.Paper.Replies.{row_reply_of, pair_reply_of}
 use Rattle.paper_entries.specs.Paper.Checks.{is_job, job_check, pair_checks, first_refusal}

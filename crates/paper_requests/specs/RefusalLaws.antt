@@ -19,7 +19,7 @@ use Rattle.paper_entries.specs.Paper.Enter.{enter}
 use Rattle.paper_entries.specs.Paper.Outcome.{Outcome, by_table, impossible, accepted}
 use Rattle.paper_entries.specs.Paper.Checks.{first_refusal}
 use Rattle.paper_entries.specs.Paper.Looking
-use Rattle.paper_entries.specs.EnterOutcome.{enter_checked, enter_refused}
+use Rattle.paper_entries.proofs.EnterOutcome.{enter_checked, enter_refused}
 use Rattle.paper_plans.specs.Paper.PlanReply.{plan_reply_of}
 use Rattle.paper_plans.specs.Paper.Lists.{among}
 use Rattle.paper_plans.specs.Paper.Planner

@@ -2,7 +2,4 @@
 pub mod Infers
 pub mod SumBeyond
 pub mod AboutMore
-pub mod ObeysRules
 pub mod Forced
-pub mod LeastEntered
-pub mod LeastClosed

@@ -1,6 +1,4 @@
 -- The order of boards by how much they show.
 pub mod OrderLaws
 pub mod Empty
-pub mod Leastness
 pub mod LeastUnique
-pub mod BoardOf

@@ -3,4 +3,3 @@ pub mod Scheduled
 pub mod ScheduledObeys
 pub mod KeepsSchedule
 pub mod ScheduledShows
-pub mod ScheduleClosed

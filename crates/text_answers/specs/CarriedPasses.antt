@@ -14,7 +14,7 @@ use Rattle.paper_board.specs.Paper.Refusals.{number_of}
 use Rattle.paper_board.specs.Paper.View.{View, view}
 use Rattle.paper_board.specs.Paper.Tests.{live}
 use Rattle.paper_closure.specs.Passes.{passes}
-use Rattle.paper_closure.specs.PassesClosed.{empty_passes}
+use Rattle.paper_closure.proofs.PassesClosed.{empty_passes}
 use Rattle.text_forms.specs.Paper.Forms.{form_of}
 use Rattle.paper_entries.specs.Paper.Entry.{Entry, number}
 use Rattle.paper_entries.specs.Paper.EntryOf.{entry_of}
@@ -23,8 +23,8 @@ use Rattle.paper_entries.specs.Paper.Enter.{enter}
 use Rattle.paper_entries.specs.Paper.Looking.{row, arcs, pair}
 use Rattle.paper_entries.specs.Paper.Replies.{Reply, ok_number, ok, no_number, reply_of, shows_row, no_row, row_reply_of, shows_pair, no_pair, pair_reply_of}
 use Rattle.paper_entries.specs.AnsweredImpossible.{lines, refusal_line, answered_board}
-use Rattle.paper_entries.specs.Later.{call_later}
-use Rattle.paper_entries.specs.EnterOutcome.{enter_checked}
+use Rattle.paper_entries.proofs.Later.{call_later}
+use Rattle.paper_entries.proofs.EnterOutcome.{enter_checked}
 use Rattle.paper_plans.specs.Paper.PlanReply.{plan_found, plan_none, plan_spent, no_plan, plan_reply_of}
 use Rattle.paper_plans.specs.Paper.Tries.{Ending, found, none as exhausted, tries}
 use Rattle.paper_plans.specs.Paper.ReplyWithin.{taken}

@@ -11,7 +11,7 @@ use Rattle.paper_board.specs.Paper.Limits.{empty_board}
 use Rattle.paper_board.specs.Paper.Parts.{empty_books}
 use Rattle.paper_board.specs.Paper.Refusals.{number_of}
 use Rattle.paper_rules.specs.Order.Empty.{within_empty_books}
-use Rattle.paper_closure.specs.PassesClosed.{empty_passes}
+use Rattle.paper_closure.proofs.PassesClosed.{empty_passes}
 use Rattle.text_replies.specs.Paper.ReplyTexts.{refusal_text}
 use Rattle.text_replies.specs.Room.{answer_room}
 use Rattle.text_pieces.specs.declared.Piece.{Piece}

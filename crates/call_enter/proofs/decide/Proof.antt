@@ -3,7 +3,7 @@ use mathlib.Core.Path.{refl, ◌∙◌}
 use borrow.Author.Rules.{rules}
 use borrow.Author.Tests.{not-true, not-false}
 use Rattle.paper_board.specs.Paper.Limits.{Within}
-use Rattle.paper_closure.specs.PassesClosed.{passes_within}
+use Rattle.paper_closure.proofs.PassesClosed.{passes_within}
 use Rattle.call_statements.specs.Stated.{have_places}
 use Rattle.call_enter.specs.Concluded.{shown_already, is_impossible, is_possible}
 use Rattle.call_enter.proofs.decide.Statement.{statement}

@@ -3,7 +3,7 @@ use mathlib.Core.Path.{◌≡◌, sym, ◌∙◌}
 use mathlib.Core.Logic.{⊎_elim}
 use borrow.Author.Rules.{rules}
 use Rattle.paper_closure.specs.Passes.{passes}
-use Rattle.paper_entries.specs.EnterOutcome.{enter_refused}
+use Rattle.paper_entries.proofs.EnterOutcome.{enter_refused}
 use Rattle.call_exports_by_value.proofs.enter.Statement.{statement}
 use Rattle.call_exports_by_value.proofs.enter.Tie as tie
 

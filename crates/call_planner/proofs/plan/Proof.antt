@@ -4,11 +4,11 @@ use mathlib.Core.List.{[], ◌∷◌}
 use mathlib.Core.Option.{none}
 use borrow.Author.Rules.{rules}
 use mir.ValLaws.{to_z-of_z}
-use Rattle.paper_closure.specs.PassesClosed.{passes_within}
+use Rattle.paper_closure.proofs.PassesClosed.{passes_within}
 use Rattle.paper_entries.specs.Paper.Checks.{budget_check, first_refusal}
 use Rattle.call_checks.specs.RefusalOf.{refusal_of}
 use Rattle.paper_plans.specs.Paper.Planner.{plan}
-use Rattle.paper_plans.specs.PlanLaws.{budget_within}
+use Rattle.paper_plans.proofs.PlanLaws.{budget_within}
 use Rattle.call_planner.proofs.plan.Statement.{statement}
 use Rattle.call_planner.proofs.plan.Tie as tie
 

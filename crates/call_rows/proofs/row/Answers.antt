@@ -2,9 +2,9 @@
 use mathlib.Core.Path.{sym}
 use native.Mathlib.Omega.{arith}
 use mir.ValLaws.{to_z-of_z}
-use Rattle.paper_closure.specs.PassesClosed.{passes_within}
+use Rattle.paper_closure.proofs.PassesClosed.{passes_within}
 use Rattle.paper_entries.specs.Paper.Looking.{row}
-use Rattle.paper_entries.specs.CallNumbers.{job_numbers}
+use Rattle.paper_entries.proofs.CallNumbers.{job_numbers}
 use Rattle.call_rows.proofs.row.Goals as goal
 
 pub index-requires : goal.index-requires

@@ -5,7 +5,7 @@ use mir.Syntax.{w32}
 use mir.Val.{SFits}
 use mir.ValLaws.{to_z-of_z}
 use Rattle.ground_arithmetic.specs.Linear.{whole}
-use Rattle.paper_entries.specs.CallNumbers.{addition_numbers, pair_numbers, mark_numbers, cut_numbers}
+use Rattle.paper_entries.proofs.CallNumbers.{addition_numbers, pair_numbers, mark_numbers, cut_numbers}
 use Rattle.call_statements.proofs.stated_by.Statement.{statement}
 use Rattle.call_statements.proofs.stated_by.Tie as tie
 

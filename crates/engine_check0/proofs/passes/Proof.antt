@@ -9,11 +9,11 @@ use Rattle.paper_board.specs.declared.Board.{Board}
 use Rattle.paper_board.specs.Paper.View.{view}
 use Rattle.paper_board.specs.Paper.Limits.{Within, BooksWithin}
 use Rattle.paper_rules.specs.Inference.Infers.{Obeys}
-use Rattle.paper_board.specs.BoardTests.LimitsDecided.{limits_yes, limits_show, decides_books}
+use Rattle.paper_board.proofs.LimitsDecided.{limits_yes, limits_show, decides_books}
 use Rattle.engine_findings.specs.Searched.{Searched}
 use Rattle.engine_findings.specs.InferredOf.{inferred_of}
 use Rattle.engine_search.specs.Reads.{arrays_hold, board_read}
-use Rattle.paper_closure.specs.PassesClosed.{passes_within, passes_books, passes_obeys, obeys_passes}
+use Rattle.paper_closure.proofs.PassesClosed.{passes_within, passes_books, passes_obeys, obeys_passes}
 use Rattle.engine_check0.proofs.passes.Statement.{statement}
 use Rattle.engine_check0.proofs.passes.Tie as tie
 

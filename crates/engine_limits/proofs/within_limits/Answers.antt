@@ -4,7 +4,7 @@ use native.Mathlib.Omega.{arith}
 use borrow.Author.Rules.{rules}
 use Rattle.paper_board.specs.Paper.Limits.{Shape}
 use Rattle.paper_board.specs.BoardTests.Decides.{failed, second_asked, first_failed, same_decision}
-use Rattle.paper_board.specs.BoardTests.LimitsDecided.{decides_limits}
+use Rattle.paper_board.proofs.LimitsDecided.{decides_limits}
 use Rattle.engine_limits.specs.LimitsTested.{limits_tested}
 use Rattle.engine_limits.proofs.within_limits.Goals as goal
 

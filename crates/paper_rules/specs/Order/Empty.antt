@@ -15,7 +15,7 @@ use Rattle.paper_rules.specs.Inference.Infers.{r1, r2, r3, r45, r6, Obeys}
 use Rattle.paper_rules.specs.Update.Extension.{above_self}
 use Rattle.paper_board.specs.Paper.Tests.{implies}
 use Rattle.paper_board.specs.BoardTests.WithinLimits.{all, is_zero, is_zero_row, full, shape, holds_nothing, within_limits}
-use Rattle.paper_board.specs.BoardTests.LimitsDecided.{limits_yes, decides_books}
+use Rattle.paper_board.proofs.LimitsDecided.{limits_yes, decides_books}
 
 pub within_empty : (books : Books) → Within (empty_board books)
 unfolding all implies eq_z is_zero is_zero_row full shape holds_nothing within_limits

@@ -2,7 +2,7 @@
 use borrow.Author.Rules.{rules}
 use Rattle.paper_board.specs.Paper.Parts.{empty_books}
 use Rattle.paper_rules.specs.Order.Empty.{within_empty_books}
-use Rattle.paper_closure.specs.PassesClosed.{empty_passes}
+use Rattle.paper_closure.proofs.PassesClosed.{empty_passes}
 use Rattle.text_pieces.specs.LoadedAnswers.{overloaded_answers, loaded_answers}
 use Rattle.text_pieces.proofs.start.Goals as goal
 

@@ -1,7 +1,7 @@
 -- `call_dock::Dock::enter` meets its contract: check 0 comes first. Assumes nothing.
 use mathlib.Core.Path.{sym, ◌∙◌}
 use borrow.Author.Rules.{rules}
-use Rattle.paper_entries.specs.EnterOutcome.{enter_refused}
+use Rattle.paper_entries.proofs.EnterOutcome.{enter_refused}
 use Rattle.call_dock.proofs.Dock.enter.Statement.{statement}
 use Rattle.call_dock.proofs.Dock.enter.Tie as tie
 

@@ -1,0 +1,2 @@
+-- The tests of the limits decide the limits.
+pub mod LimitsDecided

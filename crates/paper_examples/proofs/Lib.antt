@@ -1,0 +1,2 @@
+-- What check 0 gives on examples.
+pub mod CheckZero

@@ -1,0 +1,2 @@
+-- That a call has each of its refusals, on some board.
+pub mod Witnesses
