@@ -1,9 +1,9 @@
 -- `call_planner::plan` meets its contract: it has one check. Assumes nothing.
 use mathlib.Core.Path.{sym}
 use mir.ValLaws.{to_z-of_z}
-use Rattle.paper_closure.specs.PassesClosed.{passes_within}
+use Rattle.paper_closure.proofs.PassesClosed.{passes_within}
 use Rattle.paper_plans.specs.Paper.Planner.{plan}
-use Rattle.paper_plans.specs.PlanLaws.{budget_within}
+use Rattle.paper_plans.proofs.PlanLaws.{budget_within}
 use Rattle.call_planner.proofs.plan.Goals as goal
 
 pub marked-requires : goal.marked-requires
