@@ -4,11 +4,11 @@ use mathlib.Core.Path.{sym, ap, ◌∙◌}
 use Rattle.ground_arithmetic.specs.Bools.{is_false, refuted}
 use Rattle.paper_board.specs.Paper.View.{view}
 use Rattle.paper_rules.specs.Inference.Infers.{Obeys}
-use Rattle.paper_board.specs.BoardTests.LimitsDecided.{limits_yes, limits_show, decides_books}
+use Rattle.paper_board.proofs.LimitsDecided.{limits_yes, limits_show, decides_books}
 use Rattle.engine_findings.specs.Searched.{Searched}
 use Rattle.engine_findings.specs.InferredOf.{inferred_of}
 use Rattle.engine_search.specs.Reads.{arrays_hold, board_read}
-use Rattle.paper_closure.specs.PassesClosed.{passes_within, passes_books, passes_obeys, obeys_passes}
+use Rattle.paper_closure.proofs.PassesClosed.{passes_within, passes_books, passes_obeys, obeys_passes}
 use Rattle.engine_check0.proofs.passes.Goals as goal
 use Rattle.engine_check0.proofs.passes.Goals.{then-not-within_limits-via-then-not-within_limits, then-not-within_limits-via-else-not-within_limits+then-not-books_within}
 
