@@ -102,8 +102,8 @@ fn push_job<'a>(
 ) -> Pushed
     requires { (job < job_limit) × Times times.old × Times fixed.now × Lengths lengths.now × Leaves (side_of side) times.old lengths.now leading }
     ensures times { Times times.new × SameBut job times.old times.new }
-    ensures by_index { (beyond : List ℕ) → LeadsTo leading beyond valid job → windows.Raises (side_of side) (windows.PrecedenceRead (side_of side) fixed.now lengths.now beyond valid) times.old times.new }
-    ensures by_index_2 { (beyond : List ℕ) → LeadsTo leading beyond valid job → windows.Shuts (side_of side) (windows.PrecedenceRead (side_of side) fixed.now lengths.now beyond valid) times.old result.stuck }
+    ensures raises { (beyond : List ℕ) → LeadsTo leading beyond valid job → windows.Raises (side_of side) (windows.PrecedenceRead (side_of side) fixed.now lengths.now beyond valid) times.old times.new }
+    ensures shuts { (beyond : List ℕ) → LeadsTo leading beyond valid job → windows.Shuts (side_of side) (windows.PrecedenceRead (side_of side) fixed.now lengths.now beyond valid) times.old result.stuck }
 {
     let time = leading.time;
     if leading.set == 0 || !is_lower(side, times[job], time) {
