@@ -9,7 +9,6 @@ use Rattle.engine_places.proofs.is_zero_place.Goals as goal
 use Rattle.engine_places.proofs.is_zero_place.Goals.{After-is_zero_row}
 
 -- what the test of the row says
--- MANUAL helper
 row_tested : (c : After-is_zero_row)
     → let a = c.args in
     c.is_zero_row.result ≡ (is_zero a.length && is_zero a.earliest && is_zero a.latest)
