@@ -32,4 +32,3 @@ pub returns-in-Unknown : goal.returns-in-Unknown
 returns-in-Unknown c =
     let (text, board) = unknown_gives _ _ c.looked-in-Unknown.ensures c.in-Unknown.is c.put_refusal.ensures in
     record { written = text; board_value = board }
-
