@@ -1,5 +1,4 @@
 -- `text_pieces::next` ends, and keeps what was written and what remains.
-use Prim.Native.Nat.{◌+◌, ◌≤◌, ◌<◌}
 use mathlib.Core.Path.{◌≡◌}
 use lib.ListN.{length}
 use Rattle.text_pieces.specs.PieceState.{PieceState}
