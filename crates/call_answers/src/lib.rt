@@ -14,7 +14,7 @@ pub fn refused(refusal: Refusal, board: Board) -> Entered
     ensures { result ≡ paper.refused refusal board }
 {
     Entered {
-        answer: Answer::Refused(refusal),
+        answer: Err(refusal),
         board,
     }
 }
@@ -23,11 +23,7 @@ pub fn refused(refusal: Refusal, board: Board) -> Entered
 fn next_tally(tally: u32) -> u32
     ensures { result ≡ min (tally + 1) tally_limit }
 {
-    if tally < Board::TALLY {
-        tally + 1
-    } else {
-        Board::TALLY
-    }
+    tally.saturating_add(1).min(Board::TALLY)
 }
 
 // "number 8 adds one to the tally"
@@ -35,8 +31,7 @@ pub fn impossible(board: Board) -> Entered
     ensures { result ≡ paper.refused Refusal.Impossible (paper.counted board) }
 {
     let mut counted = board;
-    let tally = next_tally(board.books.tally);
-    counted.books.tally = tally;
+    counted.books.tally = next_tally(board.books.tally);
     refused(Refusal::Impossible, counted)
 }
 
@@ -45,9 +40,7 @@ pub fn acceptance(jobs: usize, entry: Entry) -> Answer
     ensures { result ≡ paper.acceptance jobs (entry_of entry) }
 {
     match entry {
-        Entry::Addition { .. } => Answer::Added(jobs),
-        Entry::Arc { .. } => Answer::Accepted,
-        Entry::Mark { .. } => Answer::Accepted,
-        Entry::Cut { .. } => Answer::Accepted,
+        Entry::Addition { .. } => Ok(Some(jobs)),
+        Entry::Arc { .. } | Entry::Mark { .. } | Entry::Cut { .. } => Ok(None),
     }
 }

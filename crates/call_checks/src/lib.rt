@@ -1,32 +1,21 @@
 // "Refusals by the gate": the lines of the table, the checks of a job and of a pair, and the planner's 9.
 #![tactic(auto)]
 
-ghost use Rattle.std.specs.Prelude.{◌≡◌, ◌&&◌, List, [], ◌∷◌, pos, ◌≤ℤ◌};
-ghost use Rattle.ground_arithmetic.specs.Linear.{eq_z};
+ghost use Rattle.std.specs.Prelude.{◌≡◌, [], ◌∷◌, pos, ◌≤ℤ◌};
 ghost use Rattle.paper_entries.specs.Paper.Entry as entry;
 ghost use Rattle.paper_entries.specs.Paper.Checks as paper;
-ghost use Rattle.paper_entries.specs.Paper.Checks.{Check, is_job, job_check, pair_checks, budget_check, first_refusal};
+ghost use Rattle.paper_entries.specs.Paper.Checks.{is_job, job_check, pair_checks, budget_check, first_refusal};
 ghost use Rattle.call_checks.specs.RefusalOf.{refusal_of};
 
 use paper_board::Refusal;
 use paper_board::range::between;
 
-// What the checks say of a call: they let it pass, or the refusal of the first that doesn't.
-#[derive(Clone, Copy)]
-pub enum Checked {
-    Passed,
-    Refused(Refusal),
-}
-
-// A line of the table, and what the lines after it say.
-pub fn line(refusal: Refusal, refuses: bool, rest: Checked) -> Checked
-    ensures { (cs : List Check) → refusal_of rest ≡ first_refusal cs → refusal_of result ≡ first_refusal (paper.line refusal refuses ∷ cs) }
+// A line of the table: the call's refusal where the line refuses it.
+#[tactic(auto, unfolding(paper_entries::specs::Paper::Checks::first_refusal))]
+pub fn refuse_if(refuses: bool, refusal: Refusal) -> Result<(), Refusal>
+    ensures { refusal_of result ≡ first_refusal (paper.line refusal refuses ∷ []) }
 {
-    if refuses {
-        Checked::Refused(refusal)
-    } else {
-        rest
-    }
+    if refuses { Err(refusal) } else { Ok(()) }
 }
 
 // A number that is not negative, as the number of a job.
@@ -60,46 +49,29 @@ pub fn is_job(jobs: usize, number: i32) -> bool
     0 <= number && index(number) < jobs
 }
 
-fn are_jobs(jobs: usize, a: i32, b: i32) -> bool
-    ensures { result ≡ is_job jobs a && is_job jobs b }
-{
-    is_job(jobs, a) && is_job(jobs, b)
-}
-
-fn is_same(a: i32, b: i32) -> bool
-    ensures { result ≡ eq_z a b }
-{
-    a <= b && b <= a
-}
-
 // 2 job
-pub fn job_check(jobs: usize, job: i32) -> Checked
+pub fn job_check(jobs: usize, job: i32) -> Result<(), Refusal>
     ensures { refusal_of result ≡ first_refusal (job_check jobs job ∷ []) }
 {
-    line(Refusal::Job, !is_job(jobs, job), Checked::Passed)
+    refuse_if(!is_job(jobs, job), Refusal::Job)
 }
 
 // 2 job, 3 same
-pub fn pair_checks(jobs: usize, a: i32, b: i32) -> Checked
+#[tactic(auto, unfolding(paper_entries::specs::Paper::Checks::first_refusal))]
+pub fn pair_checks(jobs: usize, a: i32, b: i32) -> Result<(), Refusal>
     ensures { refusal_of result ≡ first_refusal (pair_checks jobs a b) }
 {
-    line(
-        Refusal::Job,
-        !are_jobs(jobs, a, b),
-        line(Refusal::Same, is_same(a, b), Checked::Passed),
-    )
+    job_check(jobs, a)?;
+    job_check(jobs, b)?;
+    refuse_if(a == b, Refusal::Same)
 }
 
 // "a budget, 0 to 1000000"
 const BUDGET: i32 = 1000000;
 
 // 9 budget
-pub fn budget_check(budget: i32) -> Checked
+pub fn budget_check(budget: i32) -> Result<(), Refusal>
     ensures { refusal_of result ≡ first_refusal (budget_check budget ∷ []) }
 {
-    line(
-        Refusal::Budget,
-        !between(0, BUDGET, budget),
-        Checked::Passed,
-    )
+    refuse_if(!between(0, BUDGET, budget), Refusal::Budget)
 }

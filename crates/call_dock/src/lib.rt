@@ -12,7 +12,7 @@ ghost use Rattle.paper_plans.specs.Paper.Planner as planning;
 use engine_check0::passes;
 use paper_board::{Board, Refusal};
 use paper_entries::{Entered, Entry, PairAnswer, RowAnswer};
-use paper_plans::{PlanAnswer, Planned};
+use paper_plans::Planned;
 
 #[derive(Clone, Copy)]
 pub struct Dock {
@@ -25,10 +25,11 @@ impl Dock {
     fn passes(self) -> bool
         ensures { result ≡ check.passes self.board }
     {
-        passes(self.board)
+        passes(&self.board)
     }
 
     // An entry of any sort.
+    #[tactic(auto, unfolding(paper_entries::specs::Paper::Enter::enter))]
     pub fn enter(self, entry: Entry) -> Entered
         ensures { result ≡ paper.enter self.board (entry_of entry) }
     {
@@ -68,35 +69,38 @@ impl Dock {
     }
 
     // "Row of a job: mark, E, D, the set before it and the set after it."
+    #[tactic(auto, unfolding(paper_entries::specs::Paper::Looking::row))]
     pub fn row(self, job: i32) -> RowAnswer
         ensures { result ≡ looking.row self.board job }
     {
         if self.passes() {
             call_rows::row(self.board, job)
         } else {
-            RowAnswer::Refused(Refusal::Board)
+            Err(Refusal::Board)
         }
     }
 
     // "Pair of A, B: 0 no arc, 1 A to B, 2 B to A, 3 both; and the gap"
+    #[tactic(auto, unfolding(paper_entries::specs::Paper::Looking::pair))]
     pub fn pair(self, a: i32, b: i32) -> PairAnswer
         ensures { result ≡ looking.pair self.board a b }
     {
         if self.passes() {
             call_pairs::pair(self.board, a, b)
         } else {
-            PairAnswer::Refused(Refusal::Board)
+            Err(Refusal::Board)
         }
     }
 
     // "It takes the board and a budget, 0 to 1000000."
+    #[tactic(auto, unfolding(paper_plans::specs::Paper::Planner::plan))]
     pub fn plan(self, budget: i32) -> Planned
         ensures { result ≡ planning.plan self.board budget }
     {
         if self.passes() {
             call_planner::plan(self.board, budget)
         } else {
-            call_placements::unplanned(PlanAnswer::Refused(Refusal::Board))
+            call_placements::unplanned(Err(Refusal::Board))
         }
     }
 }

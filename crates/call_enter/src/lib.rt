@@ -12,64 +12,32 @@ ghost use Rattle.call_statements.specs.Stated.{raw_of, Storable};
 
 use call_answers::{acceptance, impossible, refused};
 use call_attempts::attempt;
-use call_checks::Checked;
 use call_entry_checks::entry_checks;
-use call_raw_entries::{is_shown, jobs_with};
+use call_raw_entries::is_shown;
 use call_statements::{Stated, stated_by};
 use paper_board::Board;
 use paper_entries::{Answer, Entered, Entry};
 
-// The attempt on a copy of the board's arrays, and what is concluded: the board put together once, or refusal 8. The two stand in one
-// function, since each that hands on a board copies it. What the board shows already alters nothing, and a board that passes check 0 is
-// closed.
+// The attempt on a copy of the board, and what is concluded: the board that it leaves, or refusal 8. The two stand in one function, since each
+// that hands on a board copies it. What the board shows already alters nothing, and a board that passes check 0 is closed.
+#[tactic(auto, using(crate::specs::Concluded::concluding))]
 fn decide(board: Board, stated: Stated, accepted: Answer) -> Entered
     requires { (passes board ≡ true) × Storable board.jobs stated }
     ensures { result ≡ paper.concluded board accepted (raw_of board stated and_then closing.closure) }
 {
-    if is_shown(
-        &board.earliest,
-        &board.latest,
-        &board.marks,
-        &board.after,
-        stated,
-    ) {
+    if is_shown(&board, stated) {
         return Entered {
             answer: accepted,
             board,
         };
     }
-    let jobs = jobs_with(board.jobs, stated);
-    let mut lengths = board.lengths;
-    let mut earliest = board.earliest;
-    let mut latest = board.latest;
-    let mut marks = board.marks;
-    let mut after = board.after;
-    let mut before = board.before;
-    if !attempt(
-        board.jobs,
-        &mut lengths,
-        &mut earliest,
-        &mut latest,
-        &mut marks,
-        &mut after,
-        &mut before,
-        stated,
-    ) {
-        return impossible(board);
-    }
-    let books = board.books;
-    Entered {
-        answer: accepted,
-        board: Board {
-            jobs,
-            lengths,
-            earliest,
-            latest,
-            marks,
-            after,
-            before,
-            books,
+    let mut next = board;
+    match attempt(&mut next, stated) {
+        Some(()) => Entered {
+            answer: accepted,
+            board: next,
         },
+        None => impossible(board),
     }
 }
 
@@ -78,7 +46,7 @@ pub fn enter(board: Board, entry: Entry) -> Entered
     ensures { result ≡ paper.enter board (entry_of entry) }
 {
     match entry_checks(board.jobs, entry) {
-        Checked::Refused(refusal) => refused(refusal, board),
-        Checked::Passed => decide(board, stated_by(entry), acceptance(board.jobs, entry)),
+        Err(refusal) => refused(refusal, board),
+        Ok(()) => decide(board, stated_by(entry), acceptance(board.jobs, entry)),
     }
 }

@@ -1,80 +1,66 @@
 // The checks 1 to 7 of the table, as far as each sort of entry has them.
 #![tactic(auto)]
 
-ghost use Rattle.std.specs.Prelude.{◌≡◌, ◌&&◌, List, ◌∷◌};
-ghost use Rattle.paper_board.specs.Paper.Tests as tests;
+ghost use Rattle.std.specs.Prelude.{◌≡◌, [], ◌∷◌};
 ghost use Rattle.paper_entries.specs.Paper.Entry as entry;
-ghost use Rattle.paper_entries.specs.Paper.Checks.{Check, time_check, window_check, checks, first_refusal};
+ghost use Rattle.paper_entries.specs.Paper.Checks.{time_check, window_check, checks, first_refusal};
 ghost use Rattle.paper_entries.specs.Paper.EntryOf.{entry_of};
 ghost use Rattle.call_checks.specs.RefusalOf.{refusal_of};
 
-use call_checks::{Checked, is_job, line, pair_checks};
+use call_checks::{job_check, pair_checks, refuse_if};
 use paper_board::range::{between, is_length, is_time};
 use paper_board::{Board, Refusal};
 use paper_entries::Entry;
 
-fn are_times(earliest: i32, latest: i32) -> bool
-    ensures { result ≡ tests.is_time earliest && tests.is_time latest }
+// 5 time, 6 window
+#[tactic(auto, unfolding(paper_entries::specs::Paper::Checks::first_refusal))]
+fn window_checks(earliest: i32, latest: i32) -> Result<(), Refusal>
+    ensures { refusal_of result ≡ first_refusal (time_check earliest latest ∷ window_check earliest latest ∷ []) }
 {
-    is_time(earliest) && is_time(latest)
-}
-
-// 5 time, 6 window, and what the lines after them say
-fn window_lines(earliest: i32, latest: i32, rest: Checked) -> Checked
-    ensures { (cs : List Check) → refusal_of rest ≡ first_refusal cs → refusal_of result ≡ first_refusal (time_check earliest latest ∷ window_check earliest latest ∷ cs) }
-{
-    line(
-        Refusal::Time,
-        !are_times(earliest, latest),
-        line(Refusal::Window, latest < earliest, rest),
-    )
+    refuse_if(!is_time(earliest), Refusal::Time)?;
+    refuse_if(!is_time(latest), Refusal::Time)?;
+    refuse_if(latest < earliest, Refusal::Window)
 }
 
 // 2 job, 7 mark
-fn mark_checks(jobs: usize, job: i32, mark: i32) -> Checked
+#[tactic(auto, unfolding(paper_entries::specs::Paper::Checks::first_refusal))]
+fn mark_checks(jobs: usize, job: i32, mark: i32) -> Result<(), Refusal>
     ensures { refusal_of result ≡ first_refusal (checks jobs (entry.other (entry.mark job mark))) }
 {
     let taken = between(Board::VALID as i32, Board::INVALID as i32, mark);
-    line(
-        Refusal::Job,
-        !is_job(jobs, job),
-        line(Refusal::Mark, !taken, Checked::Passed),
-    )
+    job_check(jobs, job)?;
+    refuse_if(!taken, Refusal::Mark)
 }
 
 // 2 job, 5 time, 6 window
-fn cut_checks(jobs: usize, job: i32, earliest: i32, latest: i32) -> Checked
+#[tactic(auto, unfolding(paper_entries::specs::Paper::Checks::first_refusal))]
+fn cut_checks(jobs: usize, job: i32, earliest: i32, latest: i32) -> Result<(), Refusal>
     ensures { refusal_of result ≡ first_refusal (checks jobs (entry.other (entry.cut job earliest latest))) }
 {
-    line(
-        Refusal::Job,
-        !is_job(jobs, job),
-        window_lines(earliest, latest, Checked::Passed),
-    )
+    job_check(jobs, job)?;
+    window_checks(earliest, latest)
 }
 
 // 1 full, 4 length, 5 time, 6 window, 7 mark
-fn addition_checks(jobs: usize, length: i32, earliest: i32, latest: i32, mark: i32) -> Checked
+#[tactic(auto, unfolding(paper_entries::specs::Paper::Checks::first_refusal))]
+fn addition_checks(
+    jobs: usize,
+    length: i32,
+    earliest: i32,
+    latest: i32,
+    mark: i32,
+) -> Result<(), Refusal>
     ensures { refusal_of result ≡ first_refusal (checks jobs (entry.addition length earliest latest mark)) }
 {
     let taken = between(Board::UNDECIDED as i32, Board::VALID as i32, mark);
-    line(
-        Refusal::Full,
-        Board::JOBS <= jobs,
-        line(
-            Refusal::Length,
-            !is_length(length),
-            window_lines(
-                earliest,
-                latest,
-                line(Refusal::Mark, !taken, Checked::Passed),
-            ),
-        ),
-    )
+    refuse_if(Board::JOBS <= jobs, Refusal::Full)?;
+    refuse_if(!is_length(length), Refusal::Length)?;
+    window_checks(earliest, latest)?;
+    refuse_if(!taken, Refusal::Mark)
 }
 
 // The checks 1 to 7, as far as the entry's sort has them.
-pub fn entry_checks(jobs: usize, entry: Entry) -> Checked
+pub fn entry_checks(jobs: usize, entry: Entry) -> Result<(), Refusal>
     ensures { refusal_of result ≡ first_refusal (checks jobs (entry_of entry)) }
 {
     match entry {

@@ -1,5 +1,6 @@
 // The calls for a host in another language that keeps the board: they alter it where it is kept, or look at it there, and their replies are
-// structs of numbers. Any board may be handed in; check 0 is among their checks.
+// structs of numbers. Any board may be handed in; check 0 is among their checks. The crate is the static library; C needs a
+// function for each name.
 #![tactic(auto)]
 
 ghost use Rattle.std.specs.Prelude.{◌≡◌, true};
@@ -14,14 +15,12 @@ ghost use Rattle.paper_plans.specs.Paper.Planner as planning;
 ghost use Rattle.call_reply_numbers.specs.ReplyNumbers.{replied, row_reply_numbers, pair_reply_numbers, plan_reply_numbers};
 
 use call_dock::Dock;
-use call_reply_numbers::{
-    PairReplyNumbers, PlanReplyNumbers, ReplyNumbers, RowReplyNumbers, reply_numbers,
-};
+use call_reply_numbers::{PairReplyNumbers, PlanReplyNumbers, ReplyNumbers, RowReplyNumbers};
 use paper_board::Board;
 use paper_entries::Entry;
 
-pub mod unchecked;
-pub mod version;
+mod unchecked;
+mod version;
 
 // A board without jobs whose tally starts at 0.
 #[unsafe(no_mangle)]
@@ -48,7 +47,7 @@ fn enter(board: &mut Board, entry: Entry, passing: bool) -> ReplyNumbers
 {
     let entered = call_exports_by_value::enter(*board, entry, passing);
     *board = entered.board;
-    reply_numbers(entered.answer)
+    ReplyNumbers::from(entered.answer)
 }
 
 // "Addition: length, E, D, mark 0 or 1; gives the job's number."

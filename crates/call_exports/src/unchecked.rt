@@ -1,4 +1,5 @@
-// The same calls without check 0: they require a board that passes it and don't test it, so that a host in C has to see to that.
+// The same calls without check 0: they require a board that passes it and don't test it, so that a host in C has to see to that. The interface of C
+// needs a function for each name.
 // The empty board passes, and what a call leaves of a board that passes: `empty_board_passes` and `left_passes` in specs/LeftPasses.antt.
 ghost use Rattle.std.specs.Prelude.{◌≡◌, true};
 ghost use Rattle.paper_closure.specs.Passes.{passes};

@@ -11,10 +11,7 @@ ghost use Rattle.paper_plans.specs.Paper.Planner as planning;
 ghost use Rattle.call_reply_numbers.specs.ReplyNumbers.{row_reply_numbers, pair_reply_numbers, plan_reply_numbers};
 
 use call_dock::Dock;
-use call_reply_numbers::{
-    PairReplyNumbers, PlanReplyNumbers, RowReplyNumbers, pair_reply_numbers, plan_reply_numbers,
-    row_reply_numbers,
-};
+use call_reply_numbers::{PairReplyNumbers, PlanReplyNumbers, RowReplyNumbers};
 use paper_board::{Board, Refusal};
 use paper_entries::{Entered, Entry};
 
@@ -23,11 +20,12 @@ pub mod unchecked;
 pub fn passes(dock: Dock) -> bool
     ensures { result ≡ check.passes dock.board }
 {
-    engine_check0::passes(dock.board)
+    engine_check0::passes(&dock.board)
 }
 
 // An entry of any sort, with check 0 unless the board is known to pass it. The dock, made where check 0 is asked, and the `else` save a copy of
 // the board: handed on by itself, or with an early `return`, it is copied once more.
+#[tactic(auto, unfolding(paper_entries::specs::Paper::Enter::enter))]
 pub fn enter(board: Board, entry: Entry, passing: bool) -> Entered
     requires { passing ≡ true → check.passes board ≡ true }
     ensures { result ≡ paper.enter board (entry_of entry) }
@@ -42,17 +40,17 @@ pub fn enter(board: Board, entry: Entry, passing: bool) -> Entered
 pub fn row(dock: Dock, job: i32) -> RowReplyNumbers
     ensures { result ≡ row_reply_numbers (looking.row dock.board job) }
 {
-    row_reply_numbers(dock.row(job))
+    RowReplyNumbers::from(dock.row(job))
 }
 
 pub fn pair(dock: Dock, a: i32, b: i32) -> PairReplyNumbers
     ensures { result ≡ pair_reply_numbers (looking.pair dock.board a b) }
 {
-    pair_reply_numbers(dock.pair(a, b))
+    PairReplyNumbers::from(dock.pair(a, b))
 }
 
 pub fn plan(dock: Dock, budget: i32) -> PlanReplyNumbers
     ensures { result ≡ plan_reply_numbers (planning.plan dock.board budget) }
 {
-    plan_reply_numbers(dock.plan(budget))
+    PlanReplyNumbers::from(dock.plan(budget))
 }

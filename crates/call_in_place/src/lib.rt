@@ -1,5 +1,5 @@
-// The host's own board: the entry calls alter it where it is kept, and the reading calls look at it there, with the same
-// answers as the calls by value.
+// The host's own board: the entry calls alter it where it is kept, and the reading calls look at it there, with the same answers as the calls
+// by value. The paper has each call in both manners, so that its name stands here and at `Dock`, which takes its board by value.
 #![tactic(auto)]
 
 ghost use Rattle.std.specs.Prelude.{◌≡◌};

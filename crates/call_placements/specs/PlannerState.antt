@@ -1,6 +1,6 @@
 -- What the planner's loop keeps: the jobs placed with what each placing left behind, the set that waits, when the dock is free, and
 -- what the tries made so far and those left come to.
-use Rattle.std.specs.Prelude.{◌≡◌, refl, true, ◌&&◌, eqb, List, [], ◌∷◌, ℕ, ◌+◌, ◌<◌, ◌≤◌, ℤ, pos, ◌+ℤ◌, length, get_or}
+use Rattle.std.specs.Prelude.{◌≡◌, refl, true, ◌&&◌, eqb, List, [], ◌∷◌, ℕ, ◌+◌, ◌≤◌, ℤ, ◌+ℤ◌, length, get_or}
 use Rattle.std.proofs.Math.Path.{sym}
 use Rattle.std.specs.Int.Signed.{le_z}
 use Rattle.ground_sets.specs.Bit.{bit, intersection}
@@ -8,21 +8,15 @@ use Rattle.ground_arithmetic.specs.Linear.{whole, plus}
 use Rattle.ground_arithmetic.specs.Time.{greater, greater_left, greater_first}
 use Rattle.paper_board.specs.declared.Board.{Board}
 use Rattle.paper_board.specs.Paper.View.{view}
-use Rattle.paper_board.specs.Paper.Limits.{Within, IsTime, first_minute, job_limit}
+use Rattle.paper_board.specs.Paper.Limits.{Within, IsTime, first_minute}
 use Rattle.paper_rules.specs.Paper.Rules.{E, D, L}
 use Rattle.paper_board.specs.BoardTests.Decides.{at_most}
 use Rattle.paper_board.specs.Paper.Tests.{valid}
 use Rattle.paper_board.specs.BoardTests.Ranges.{ranges}
 use Rattle.paper_plans.specs.Paper.Tries.{Ending, add, ◌or_else◌, start_after, in_time, ready, tries}
-use Rattle.call_placements.specs.Stack.{stack, here, back}
+use Rattle.call_placements.specs.declared.stack.Placed.{Placed}
+use Rattle.call_placements.specs.Stack.{jobs_of, here, back}
 use Rattle.call_placements.specs.Waiting.{order, Waiting, WaitingWord, waiting_count, ready_word}
-
--- what an array of the code has at a place
-abbrev pub at : List ℕ → ℕ → ℕ
-at l d = get_or l d 0
-
-abbrev pub time_at : List ℤ → ℕ → ℤ
-time_at l d = get_or l d (pos 0)
 
 module _ (b : Board) where
   -- The dock is free from a minute on, after the jobs ps: "the later of E and the end of the job placed before, or E where none
@@ -38,37 +32,37 @@ module _ (b : Board) where
     pub dock : FreeFrom ps free
     pub ends : in_time (view b) ps j ≡ true
 
-  -- the jobs placed up to a depth
-  abbrev pub Placements : List ℕ → List ℕ → List ℤ → ℕ → Type 0
-  Placements jobs lefts frees depth = (d : ℕ) → d < depth
-      → Placement (stack (at jobs) d) (at jobs d) (at lefts d) (time_at frees d)
+  -- the jobs of a stack, each placed after those below it
+  abbrev pub Placements : List Placed → Type 0
+  Placements [] = Unit {0}
+  Placements (p ∷ ps) = Placement (jobs_of ps) p.job p.left p.free × Placements ps
 
-  -- each job up to a depth is valid and, placed after those before it, ends in time
-  abbrev pub EndInTime : List ℕ → ℕ → Type 0
-  EndInTime jobs depth = (d : ℕ) → d < depth
-      → (valid (view b) (at jobs d) ≡ true) × (in_time (view b) (stack (at jobs) d) (at jobs d) ≡ true)
+  -- each of these jobs, the last one first, is valid and, placed after those before it, ends in time
+  abbrev pub EndInTime : List ℕ → Type 0
+  EndInTime [] = Unit {0}
+  EndInTime (j ∷ js) = ((valid (view b) j ≡ true) × (in_time (view b) js j ≡ true)) × EndInTime js
+
+  pub placements_end : (ps : List Placed) → Placements ps → EndInTime (jobs_of ps)
+  placements_end [] s = tt
+  placements_end (p ∷ ps) s = ((s.0.job.0, s.0.ends), placements_end ps s.1)
 
   abbrev pub ending : Ending
   ending = tries (view b) (order b)
 
   -- what is left to be tried
-  abbrev rest : List ℕ → List ℕ → ℕ → ℕ → Ending
-  rest jobs lefts depth left =
-      let ps = stack (at jobs) depth in
-      here (view b) (order b) (waiting_count b ps) ps left
-      or_else back (view b) (order b) (at jobs) (at lefts) (waiting_count b ps) depth
+  abbrev rest : List Placed → ℕ → Ending
+  rest placed left =
+      here (view b) (order b) (waiting_count b (jobs_of placed)) (jobs_of placed) left
+      or_else back (view b) (order b) placed (waiting_count b (jobs_of placed))
 
-  pub record PlannerState (jobs lefts : List ℕ) (frees : List ℤ) (depth unplaced left : ℕ) (free : ℤ) (made budget : ℕ) : Type 0 where
-    pub jobs_shape : length jobs ≡ job_limit
-    pub lefts_shape : length lefts ≡ job_limit
-    pub frees_shape : length frees ≡ job_limit
-    pub placements : Placements jobs lefts frees depth
-    pub waiting : WaitingWord b unplaced (stack (at jobs) depth)
-    pub untried : (k : ℕ) → bit left k ≡ true → Waiting b (stack (at jobs) depth) k
-    pub dock : FreeFrom (stack (at jobs) depth) free
+  pub record PlannerState (placed : List Placed) (unplaced left : ℕ) (free : ℤ) (made budget : ℕ) : Type 0 where
+    pub placements : Placements placed
+    pub waiting : WaitingWord b unplaced (jobs_of placed)
+    pub untried : (k : ℕ) → bit left k ≡ true → Waiting b (jobs_of placed) k
+    pub dock : FreeFrom (jobs_of placed) free
     pub affordable : made ≤ budget
-    pub counted : depth + waiting_count b (stack (at jobs) depth) ≡ length (order b)
-    pub so_far : ending ≡ add made (rest jobs lefts depth left)
+    pub counted : length placed + waiting_count b (jobs_of placed) ≡ length (order b)
+    pub so_far : ending ≡ add made (rest placed left)
 
   module _ (h : Within b) where
     -- before any job

@@ -1,24 +1,19 @@
--- What is left to be tried, as a function of the planner's stack: `jobs d` is the job placed at depth d, and `lefts d` the set of
--- jobs that were still to be tried then. Each move of the loop has its law.
+-- What is left to be tried, as a function of the planner's stack: each job placed is there with the set of jobs that were still to be
+-- tried then, the last one first. Each move of the loop has its law.
 use Rattle.std.specs.Prelude.{◌≡◌, true, false, ◌&&◌, List, [], ◌∷◌}
 use Rattle.std.proofs.Math.Path.{refl, sym, ap}
-use Rattle.std.proofs.Common.{◌∙◌, arith}
-use Prim.Native.Nat.{ℕ, zero, suc, ◌+◌, ◌<◌}
+use Rattle.std.proofs.Common.{◌∙◌, arith, ℕ, zero, suc, ◌+◌}
 use Rattle.ground_sets.specs.Bit.{bit}
 use Rattle.paper_board.specs.Paper.View.{View}
+use Rattle.call_placements.specs.declared.stack.Placed.{Placed}
 use Rattle.paper_plans.specs.Paper.Lists.{range, keep}
 use Rattle.paper_plans.specs.Paper.Tries.{Ending, found, none, add, ◌or_else◌, ready, in_time, unplaced, try, from, search}
 use Rattle.paper_plans.specs.EndingLaws.{add_zero, add_add, add_or_else, or_else_assoc}
 
--- the jobs placed up to a depth, the last one first
-unfoldable pub stack : (ℕ → ℕ) → ℕ → List ℕ
-stack jobs zero = []
-stack jobs (suc d) = jobs d ∷ stack jobs d
-
-pub stack_same : (f g : ℕ → ℕ) (d : ℕ) → ((i : ℕ) → i < d → f i ≡ g i) → stack f d ≡ stack g d
-unfolding stack
-stack_same f g zero h = refl
-stack_same f g (suc d) h = rw (h d (omega arith), stack_same f g d λ i l. h i (omega arith))
+-- the jobs placed, the last one first
+abbrev pub jobs_of : List Placed → List ℕ
+jobs_of [] = []
+jobs_of (p ∷ ps) = p.job ∷ jobs_of ps
 
 -- the members of a set, in ascending number
 abbrev pub members : View → ℕ → List ℕ
@@ -31,20 +26,9 @@ module _ (v : View) (order : List ℕ) where
   here (suc n) ps left = from v order (search v order n) ps (members v left)
 
   -- the tries once the last placing is taken back, and then those before it
-  unfoldable pub back : (ℕ → ℕ) → (ℕ → ℕ) → ℕ → ℕ → Ending
-  back jobs lefts n zero = none 0
-  back jobs lefts n (suc d) = here (suc n) (stack jobs d) (lefts d) or_else back jobs lefts (suc n) d
-
-  pub back_same : (f f' g g' : ℕ → ℕ) (n d : ℕ)
-      → ((i : ℕ) → i < d → f i ≡ f' i) → ((i : ℕ) → i < d → g i ≡ g' i) → back f g n d ≡ back f' g' n d
-  unfolding back
-  back_same f f' g g' n zero h l = refl
-  back_same f f' g g' n (suc d) h l =
-      rw (
-        stack_same f f' d λ i b. h i (omega arith),
-        l d (omega arith),
-        back_same f f' g g' (suc n) d (λ i b. h i (omega arith)) λ i b. l i (omega arith),
-      )
+  unfoldable pub back : List Placed → ℕ → Ending
+  back [] n = none 0
+  back (p ∷ ps) n = here (suc n) (jobs_of ps) p.left or_else back ps (suc n)
 
   pub search_here : (n : ℕ) (ps : List ℕ) (left : ℕ) → members v left ≡ unplaced v order ps → search v order n ps ≡ here n ps left
   unfolding search here

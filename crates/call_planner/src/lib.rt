@@ -5,73 +5,65 @@ ghost use Rattle.std.specs.Prelude.{◌≡◌, true};
 ghost use Rattle.paper_board.specs.Paper.Limits.{Within};
 ghost use Rattle.paper_board.specs.Paper.View.{view};
 ghost use Rattle.paper_closure.specs.Passes.{passes};
-ghost use Rattle.engine_marks.specs.Marked as sets;
 ghost use Rattle.paper_plans.specs.Paper.Planner as paper;
 ghost use Rattle.paper_plans.specs.Paper.Tries as definition;
 
-use call_checks::{Checked, budget_check, budget_value};
-use call_placements::{found, places, unplanned};
+use call_checks::{budget_check, budget_value};
+use call_placements::stack::{Placed, Stack};
+use call_placements::{Slot, found, places, unplanned};
 use engine_marks::marked;
+use ground_walks::Members;
 use paper_board::Board;
-use paper_plans::{PlanAnswer, Planned};
+use paper_plans::{Planned, TriesEnd};
 
-// The tries. The jobs placed so far are `jobs` up to `depth`; those of `left` are still to be tried from this list, and the dock is
-// free from minute `free` on. `lefts` and `frees` hold what a placing taken back comes back to.
-fn search(board: Board, valid: u64, budget: u32) -> Planned
-    requires { Within board × (valid ≡ sets.marked board.jobs board.marks 1) }
-    ensures { result ≡ paper.planned_within (view board) budget (definition.tries (view board) (paper.valid_jobs (view board))) }
+// The tries. The jobs placed so far are on the stack; those of `left` are still to be tried after them, and the dock is free from minute
+// `free` on.
+fn search(board: &Board, budget: u32) -> Planned
+    requires { Within board.now }
+    ensures { result ≡ paper.planned_within (view board.now) budget (definition.tries (view board.now) (paper.valid_jobs (view board.now))) }
 {
-    let mut jobs = [0; Board::JOBS];
-    let mut lefts = [0; Board::JOBS];
-    let mut frees = [0; Board::JOBS];
-    let mut depth = 0;
+    let valid = marked(board, Board::VALID);
+    let mut stack = Stack::empty();
     let mut unplaced = valid;
-    let mut left = valid;
+    let mut left = Members::of(valid);
     let mut free = Board::FIRST_MINUTE;
     let mut tries = 0;
     while unplaced != 0 {
-        if left == 0 {
-            if depth == 0 {
-                return unplanned(PlanAnswer::None(tries));
-            }
-            depth -= 1;
-            unplaced = ground_sets::with(unplaced, jobs[depth]);
-            left = lefts[depth];
-            free = frees[depth];
-        } else {
-            if tries == budget {
-                return unplanned(PlanAnswer::Spent(budget));
-            }
-            tries += 1;
-            let taken = ground_walks::take_lowest(left);
-            left = taken.rest;
-            let job = taken.member;
-            let start = ground_arithmetic::greater(board.earliest[job], free);
-            let end = ground_arithmetic::sum(start, board.lengths[job]);
-            if places(board.before[job], unplaced, end, board.latest[job]) {
-                jobs[depth] = job;
-                lefts[depth] = left;
-                frees[depth] = free;
-                depth += 1;
-                unplaced = ground_sets::without(unplaced, job);
-                left = unplaced;
-                free = end;
-            }
+        let Some(job) = left.next() else {
+            let Some(last) = stack.pop() else {
+                return unplanned(Ok(TriesEnd::None(tries)));
+            };
+            unplaced = ground_sets::with(unplaced, last.job);
+            left = Members::of(last.left);
+            free = last.free;
+            continue;
+        };
+        if tries == budget {
+            return unplanned(Ok(TriesEnd::Spent(budget)));
+        }
+        tries += 1;
+        let end = Slot::of(board, job, free).end;
+        if places(board.before[job], unplaced, end, board.latest[job]) {
+            stack.push(Placed {
+                job,
+                left: left.left,
+                free,
+            });
+            unplaced = ground_sets::without(unplaced, job);
+            left = Members::of(unplaced);
+            free = end;
         }
     }
-    found(board, jobs, depth, valid, tries)
+    found(board, &stack, valid, tries)
 }
 
+#[tactic(auto, using(paper_plans::proofs::PlanLaws::budget_within, paper_closure::proofs::PassesClosed::passes_within), unfolding(paper_plans::specs::Paper::Planner::plan))]
 pub fn plan(board: Board, budget: i32) -> Planned
     requires { passes board ≡ true }
     ensures { result ≡ paper.plan board budget }
 {
-    match budget_check(budget) {
-        Checked::Refused(refusal) => unplanned(PlanAnswer::Refused(refusal)),
-        Checked::Passed => search(
-            board,
-            marked(board.jobs, &board.marks, Board::VALID),
-            budget_value(budget),
-        ),
+    if let Err(refusal) = budget_check(budget) {
+        return unplanned(Err(refusal));
     }
+    search(&board, budget_value(budget))
 }

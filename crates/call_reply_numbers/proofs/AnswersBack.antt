@@ -1,5 +1,5 @@
 -- Replies in numbers lose nothing: each answer can be had back from its reply, one to an entry with the entry known.
-use Rattle.std.specs.Prelude.{◌≡◌, Bool, cond, List, [], ◌∷◌, ℕ, get_or}
+use Rattle.std.specs.Prelude.{◌≡◌, Bool, cond, List, [], ◌∷◌, ℕ, get_or, Ok, Err}
 use Rattle.std.proofs.Math.Path.{refl}
 use Rattle.std.proofs.Common.{ap}
 use Rattle.std.proofs.Math.Bool.{true, false}
@@ -9,17 +9,12 @@ use Rattle.paper_board.specs.declared.Refusal.{Refusal}
 use Rattle.paper_board.specs.declared.Refusal.TheVariants as Refused
 use Rattle.paper_board.specs.Paper.Refusals.{number_of}
 use Rattle.paper_closure.specs.Passes.{passes}
-use Rattle.paper_entries.specs.declared.Answer.{Answer}
-use Rattle.paper_entries.specs.declared.Answer.TheVariants as Answers
-use Rattle.paper_entries.specs.declared.RowAnswer.{RowAnswer}
-use Rattle.paper_entries.specs.declared.RowAnswer.TheVariants as Rows
-use Rattle.paper_entries.specs.declared.PairAnswer.{PairAnswer}
-use Rattle.paper_entries.specs.declared.PairAnswer.TheVariants as Pairs
+use Rattle.paper_entries.specs.Paper.Answers.{Answer, RowAnswer, PairAnswer}
 use Rattle.paper_entries.specs.Paper.Entry.{Entry, addition, other}
 use Rattle.paper_entries.specs.Paper.Checks.{checks, first_refusal}
 use Rattle.paper_entries.specs.Paper.Enter.{acceptance, concluded, judged, closure_with, enter}
-use Rattle.paper_plans.specs.declared.PlanAnswer.{PlanAnswer}
-use Rattle.paper_plans.specs.declared.PlanAnswer.TheVariants as Plans
+use Rattle.paper_plans.specs.declared.TriesEnd.TheVariants as Ends
+use Rattle.paper_plans.specs.Paper.Answers.{PlanAnswer}
 use Rattle.paper_plans.specs.declared.Planned.{Planned}
 use Rattle.call_reply_numbers.specs.declared.ReplyNumbers.{ReplyNumbers}
 use Rattle.call_reply_numbers.specs.declared.RowReplyNumbers.{RowReplyNumbers}
@@ -52,20 +47,20 @@ numbered_back Refused.Load = refl
 
 -- the answers with a reply
 abbrev pub answer_to : Entry → ReplyNumbers → Answer
-answer_to e r = cond r.accepted (acceptance r.number e) (Answers.Refused (numbered r.number))
+answer_to e r = cond r.accepted (acceptance r.number e) (Err (numbered r.number))
 
 abbrev pub row_answer : RowReplyNumbers → RowAnswer
 row_answer r =
     cond
     r.accepted
-    (Rows.Row r.mark r.earliest r.latest r.before r.after)
-    (Rows.Refused (numbered r.refusal))
+    (Ok (record { mark = r.mark; earliest = r.earliest; latest = r.latest; before = r.before; after = r.after }))
+    (Err (numbered r.refusal))
 
 abbrev pub pair_answer : PairReplyNumbers → PairAnswer
-pair_answer r = cond r.accepted (Pairs.Pair r.arcs r.gap) (Pairs.Refused (numbered r.refusal))
+pair_answer r = cond r.accepted (Ok (record { arcs = r.arcs; gap = r.gap })) (Err (numbered r.refusal))
 
 abbrev pub plan_answer : ℕ → ℕ → PlanAnswer
-plan_answer e n = get_or (Plans.Found n ∷ Plans.None n ∷ Plans.Spent n ∷ []) e (Plans.Refused (numbered n))
+plan_answer e n = get_or (Ok (Ends.Found n) ∷ Ok (Ends.None n) ∷ Ok (Ends.Spent n) ∷ []) e (Err (numbered n))
 
 abbrev pub planned : PlanReplyNumbers → Planned
 planned r = record { answer = plan_answer r.ending r.number; placed = r.placed; starts = r.starts }
@@ -75,8 +70,8 @@ module _ (b : Board) (e : Entry) where
   abbrev Back : Answer → Type 0
   Back a = answer_to e (reply_numbers a) ≡ a
 
-  refused_back : (r : Refusal) → Back (Answers.Refused r)
-  refused_back r = ap Answers.Refused (numbered_back r)
+  refused_back : (r : Refusal) → Back (Err r)
+  refused_back r = ap Err (numbered_back r)
 
   accepted_back : (e' : Entry) (n : ℕ) → answer_to e' (reply_numbers (acceptance n e')) ≡ acceptance n e'
   accepted_back (addition l e d m) n = refl
@@ -99,18 +94,18 @@ module _ (b : Board) (e : Entry) where
       by_check true p = rw (p, enter) (judged_back (first_refusal (checks b.jobs e)))
 
 pub row_back : (a : RowAnswer) → row_answer (row_reply_numbers a) ≡ a
-row_back (Rows.Row m e d before after) = refl
-row_back (Rows.Refused r) = ap Rows.Refused (numbered_back r)
+row_back (Ok row) = refl
+row_back (Err r) = ap Err (numbered_back r)
 
 pub pair_back : (a : PairAnswer) → pair_answer (pair_reply_numbers a) ≡ a
-pair_back (Pairs.Pair arcs gap) = refl
-pair_back (Pairs.Refused r) = ap Pairs.Refused (numbered_back r)
+pair_back (Ok pair) = refl
+pair_back (Err r) = ap Err (numbered_back r)
 
 ending_back : (a : PlanAnswer) → plan_answer (ending_number a) (plan_number a) ≡ a
-ending_back (Plans.Found t) = refl
-ending_back (Plans.None t) = refl
-ending_back (Plans.Spent t) = refl
-ending_back (Plans.Refused r) = ap Plans.Refused (numbered_back r)
+ending_back (Ok (Ends.Found t)) = refl
+ending_back (Ok (Ends.None t)) = refl
+ending_back (Ok (Ends.Spent t)) = refl
+ending_back (Err r) = ap Err (numbered_back r)
 
 pub plan_back : (p : Planned) → planned (plan_reply_numbers p) ≡ p
 plan_back p = ap (λ (a : PlanAnswer). record { answer = a; placed = p.placed; starts = p.starts }) (ending_back p.answer)

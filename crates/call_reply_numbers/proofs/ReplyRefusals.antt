@@ -1,21 +1,16 @@
 -- The refusals that the exported calls reply are those that each call has, in numbers: no other occurs.
-use Rattle.std.specs.Prelude.{◌≡◌, refl, false, ℤ}
+use Rattle.std.specs.Prelude.{◌≡◌, refl, false, ℤ, Some, None, Ok, Err}
 use mathlib.Core.List.{Memᴰ}
 use Rattle.std.proofs.Math.Option.{some}
 use Rattle.ground_arithmetic.specs.Bools.{clash}
 use Rattle.paper_board.specs.declared.Board.{Board}
-use Rattle.paper_entries.specs.declared.Answer.{Answer}
-use Rattle.paper_entries.specs.declared.Answer.TheVariants as Answers
-use Rattle.paper_entries.specs.declared.RowAnswer.{RowAnswer}
-use Rattle.paper_entries.specs.declared.RowAnswer.TheVariants as Rows
-use Rattle.paper_entries.specs.declared.PairAnswer.{PairAnswer}
-use Rattle.paper_entries.specs.declared.PairAnswer.TheVariants as Pairs
+use Rattle.paper_entries.specs.Paper.Answers.{Answer, RowAnswer, PairAnswer}
 use Rattle.paper_entries.specs.Paper.Replies.{reply_of, row_reply_of, pair_reply_of}
 use Rattle.paper_entries.specs.Paper.Enter.{enter}
 use Rattle.paper_entries.specs.Paper.Entry.{Entry}
 use Rattle.paper_entries.specs.Paper.Looking
-use Rattle.paper_plans.specs.declared.PlanAnswer.{PlanAnswer}
-use Rattle.paper_plans.specs.declared.PlanAnswer.TheVariants as Plans
+use Rattle.paper_plans.specs.declared.TriesEnd.TheVariants as Ends
+use Rattle.paper_plans.specs.Paper.Answers.{PlanAnswer}
 use Rattle.paper_plans.specs.declared.Planned.{Planned}
 use Rattle.paper_plans.specs.Paper.PlanReply.{plan_reply_of}
 use Rattle.paper_plans.specs.Paper.Planner
@@ -25,17 +20,17 @@ use Rattle.call_reply_numbers.specs.ReplyNumbers.{reply_numbers, row_reply_numbe
 
 -- a reply that isn't accepted has the number of the refusal
 entry_number : (a : Answer) → (reply_numbers a).accepted ≡ false → entry_refusal (reply_of a) ≡ some (reply_numbers a).number
-entry_number (Answers.Added k) e = clash (cc)
-entry_number Answers.Accepted e = clash (cc)
-entry_number (Answers.Refused r) e = refl
+entry_number (Ok (Some k)) e = clash (cc)
+entry_number (Ok None) e = clash (cc)
+entry_number (Err r) e = refl
 
 row_number : (a : RowAnswer) → (row_reply_numbers a).accepted ≡ false → row_refusal (row_reply_of a) ≡ some (row_reply_numbers a).refusal
-row_number (Rows.Row m e d before after) q = clash (cc)
-row_number (Rows.Refused r) q = refl
+row_number (Ok shown) q = clash (cc)
+row_number (Err r) q = refl
 
 pair_number : (a : PairAnswer) → (pair_reply_numbers a).accepted ≡ false → pair_refusal (pair_reply_of a) ≡ some (pair_reply_numbers a).refusal
-pair_number (Pairs.Pair n gap) q = clash (cc)
-pair_number (Pairs.Refused r) q = refl
+pair_number (Ok shown) q = clash (cc)
+pair_number (Err r) q = refl
 
 pub entry_refusals : (b : Board) (e : Entry) → (reply_numbers (enter b e).answer).accepted ≡ false
     → Memᴰ (reply_numbers (enter b e).answer).number (refusals_of (sort_of (entry e)))
@@ -51,10 +46,10 @@ pair_refusals b x y q = demand1.refusals b (pair x y) _ (pair_number (Looking.pa
 
 -- a plan that is refused ends with 3
 plan_number : (p : Planned) (a : PlanAnswer) → p.answer ≡ a → (plan_reply_numbers p).ending ≡ 3 → plan_refusal (plan_reply_of p) ≡ some (plan_reply_numbers p).number
-plan_number p (Plans.Found t) e q = clash (cc)
-plan_number p (Plans.None t) e q = clash (cc)
-plan_number p (Plans.Spent t) e q = clash (cc)
-plan_number p (Plans.Refused r) e q = rw e
+plan_number p (Ok (Ends.Found t)) e q = clash (cc)
+plan_number p (Ok (Ends.None t)) e q = clash (cc)
+plan_number p (Ok (Ends.Spent t)) e q = clash (cc)
+plan_number p (Err r) e q = rw e
 
 pub plan_refusals : (b : Board) (z : ℤ) → (plan_reply_numbers (Planner.plan b z)).ending ≡ 3
     → Memᴰ (plan_reply_numbers (Planner.plan b z)).number (refusals_of a-plan)

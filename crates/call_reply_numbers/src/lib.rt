@@ -1,4 +1,4 @@
-// The answers as structs of numbers, since an enum can't be exported; and the answers by value made into them.
+// The answers as structs of numbers, since an enum with values can't be exported to C: the flags and numbers in place of an enum are what C sees.
 #![tactic(auto)]
 
 ghost use Rattle.std.specs.Prelude.{◌≡◌};
@@ -6,7 +6,7 @@ ghost use Rattle.call_reply_numbers.specs.ReplyNumbers as said;
 
 use paper_board::Board;
 use paper_entries::{Answer, PairAnswer, RowAnswer};
-use paper_plans::{PlanAnswer, Planned};
+use paper_plans::{Planned, TriesEnd};
 
 // To an entry. Accepted: the number of the job added, or 0 where nothing was added. Otherwise the refusal's number.
 #[repr(C)]
@@ -18,7 +18,7 @@ pub struct ReplyNumbers {
 
 // To a row: where it is not accepted, the refusal's number, and 0 in the rest.
 #[repr(C)]
-#[derive(Clone, Copy)]
+#[derive(Clone, Copy, Default)]
 pub struct RowReplyNumbers {
     pub accepted: bool,
     pub refusal: u32,
@@ -31,7 +31,7 @@ pub struct RowReplyNumbers {
 
 // To a pair: where it is not accepted, the refusal's number, and 0 in the rest.
 #[repr(C)]
-#[derive(Clone, Copy)]
+#[derive(Clone, Copy, Default)]
 pub struct PairReplyNumbers {
     pub accepted: bool,
     pub refusal: u32,
@@ -50,106 +50,80 @@ pub struct PlanReplyNumbers {
     pub starts: [i32; Board::JOBS],
 }
 
-pub fn reply_numbers(answer: Answer) -> ReplyNumbers
-    ensures { result ≡ said.reply_numbers answer }
-{
-    match answer {
-        Answer::Added(job) => ReplyNumbers {
-            accepted: true,
-            number: job as u64,
-        },
-        Answer::Accepted => ReplyNumbers {
-            accepted: true,
-            number: 0,
-        },
-        Answer::Refused(refusal) => ReplyNumbers {
-            accepted: false,
-            number: refusal.number() as u64,
-        },
+impl From<Answer> for ReplyNumbers {
+    ghost from_gives = { λ answer reply. reply ≡ said.reply_numbers answer };
+
+    fn from(answer: Answer) -> Self {
+        match answer {
+            Ok(added) => Self {
+                accepted: true,
+                number: added.unwrap_or(0) as u64,
+            },
+            Err(refusal) => Self {
+                accepted: false,
+                number: u64::from(refusal.number()),
+            },
+        }
     }
 }
 
-pub fn row_reply_numbers(row: RowAnswer) -> RowReplyNumbers
-    ensures { result ≡ said.row_reply_numbers row }
-{
-    match row {
-        RowAnswer::Row {
-            mark,
-            earliest,
-            latest,
-            before,
-            after,
-        } => RowReplyNumbers {
-            accepted: true,
-            refusal: 0,
-            mark,
-            earliest,
-            latest,
-            before,
-            after,
-        },
-        RowAnswer::Refused(refusal) => RowReplyNumbers {
-            accepted: false,
-            refusal: refusal.number(),
-            mark: 0,
-            earliest: 0,
-            latest: 0,
-            before: 0,
-            after: 0,
-        },
+impl From<RowAnswer> for RowReplyNumbers {
+    ghost from_gives = { λ row reply. reply ≡ said.row_reply_numbers row };
+
+    fn from(row: RowAnswer) -> Self {
+        match row {
+            Ok(row) => Self {
+                accepted: true,
+                refusal: 0,
+                mark: row.mark,
+                earliest: row.earliest,
+                latest: row.latest,
+                before: row.before,
+                after: row.after,
+            },
+            Err(refusal) => Self {
+                refusal: refusal.number(),
+                ..Self::default()
+            },
+        }
     }
 }
 
-pub fn pair_reply_numbers(pair: PairAnswer) -> PairReplyNumbers
-    ensures { result ≡ said.pair_reply_numbers pair }
-{
-    match pair {
-        PairAnswer::Pair { arcs, gap } => PairReplyNumbers {
-            accepted: true,
-            refusal: 0,
-            arcs,
-            gap,
-        },
-        PairAnswer::Refused(refusal) => PairReplyNumbers {
-            accepted: false,
-            refusal: refusal.number(),
-            arcs: 0,
-            gap: 0,
-        },
+impl From<PairAnswer> for PairReplyNumbers {
+    ghost from_gives = { λ pair reply. reply ≡ said.pair_reply_numbers pair };
+
+    fn from(pair: PairAnswer) -> Self {
+        match pair {
+            Ok(pair) => Self {
+                accepted: true,
+                refusal: 0,
+                arcs: pair.arcs,
+                gap: pair.gap,
+            },
+            Err(refusal) => Self {
+                refusal: refusal.number(),
+                ..Self::default()
+            },
+        }
     }
 }
 
-fn ending_number(answer: PlanAnswer) -> u8
-    ensures { result ≡ said.ending_number answer }
-{
-    match answer {
-        PlanAnswer::Found(_) => 0,
-        PlanAnswer::None(_) => 1,
-        PlanAnswer::Spent(_) => 2,
-        PlanAnswer::Refused(_) => 3,
-    }
-}
+impl From<Planned> for PlanReplyNumbers {
+    ghost from_gives = { λ planned reply. reply ≡ said.plan_reply_numbers planned };
 
-fn plan_number(answer: PlanAnswer) -> u32
-    ensures { result ≡ said.plan_number answer }
-{
-    match answer {
-        PlanAnswer::Found(tries) => tries,
-        PlanAnswer::None(tries) => tries,
-        PlanAnswer::Spent(budget) => budget,
-        PlanAnswer::Refused(refusal) => refusal.number(),
-    }
-}
-
-pub fn plan_reply_numbers(planned: Planned) -> PlanReplyNumbers
-    ensures { result ≡ said.plan_reply_numbers planned }
-{
-    let answer = planned.answer;
-    let starts = planned.starts;
-    PlanReplyNumbers {
-        ending: ending_number(answer),
-        number: plan_number(answer),
-        placed: planned.placed,
-        starts,
+    fn from(planned: Planned) -> Self {
+        let starts = planned.starts;
+        let (ending, number) = match planned.answer {
+            Ok(TriesEnd::Found(tries)) => (0, tries),
+            Ok(TriesEnd::None(tries)) => (1, tries),
+            Ok(TriesEnd::Spent(budget)) => (2, budget),
+            Err(refusal) => (3, refusal.number()),
+        };
+        Self {
+            ending,
+            number,
+            placed: planned.placed,
+            starts,
+        }
     }
 }

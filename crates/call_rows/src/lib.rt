@@ -6,15 +6,15 @@ ghost use Rattle.paper_board.specs.Paper.Limits.{job_limit};
 ghost use Rattle.paper_closure.specs.Passes.{passes};
 ghost use Rattle.paper_entries.specs.Paper.Looking as looking;
 
-use call_checks::{Checked, index, job_check};
+use call_checks::{index, job_check};
 use paper_board::Board;
-use paper_entries::RowAnswer;
+use paper_entries::{RowAnswer, ShownRow};
 
-fn shown_row(board: Board, job: usize) -> RowAnswer
+fn shown_row(board: &Board, job: usize) -> ShownRow
     requires { job < job_limit }
-    ensures { result ≡ looking.row_shown board job }
+    ensures { Ok result ≡ looking.row_shown board.now job }
 {
-    RowAnswer::Row {
+    ShownRow {
         mark: board.marks[job],
         earliest: board.earliest[job],
         latest: board.latest[job],
@@ -23,12 +23,11 @@ fn shown_row(board: Board, job: usize) -> RowAnswer
     }
 }
 
+#[tactic(auto, using(paper_entries::proofs::CallNumbers::job_numbers, paper_closure::proofs::PassesClosed::passes_within), unfolding(paper_entries::specs::Paper::Looking::row))]
 pub fn row(board: Board, job: i32) -> RowAnswer
     requires { passes board ≡ true }
     ensures { result ≡ looking.row board job }
 {
-    match job_check(board.jobs, job) {
-        Checked::Refused(refusal) => RowAnswer::Refused(refusal),
-        Checked::Passed => shown_row(board, index(job)),
-    }
+    job_check(board.jobs, job)?;
+    Ok(shown_row(&board, index(job)))
 }

@@ -1,6 +1,6 @@
 -- What an entry states: the board that shows it, nothing inferred yet; and when the code can put it there.
-use Rattle.std.specs.Prelude.{◌≡◌, refl, Bool, true, List, [], ◌∷◌, ℕ, suc, ◌<◌, ◌≤◌, ℤ, set}
-use Rattle.std.proofs.Common.{sym, ◌∙◌, subst, ⊎_elim}
+use Rattle.std.specs.Prelude.{◌≡◌, refl, List, [], ◌∷◌, ℕ, suc, ◌<◌, ◌≤◌, ℤ}
+use Rattle.std.proofs.Common.{subst, ⊎_elim}
 use Rattle.std.proofs.Math.Path.{subst⁻¹}
 use mathlib.Core.List.Memᴰ
 use Rattle.std.proofs.Math.Option.{Option, none, some}
@@ -8,9 +8,7 @@ use Rattle.paper_board.specs.declared.Board.{Board}
 use Rattle.paper_board.specs.Paper.Facts.{Fact, AboutJobs}
 use Rattle.paper_board.specs.Paper.View as Rows
 use Rattle.paper_board.specs.Paper.Limits.{job_limit, Fits, Within}
-use Rattle.paper_board.specs.Paper.Parts.{with_jobs}
 use Rattle.paper_board.specs.Paper.Values.{fact_of}
-use Rattle.paper_rules.specs.Update.ArraysWithin.{filled, possibly, ArraysWithin, Alters}
 use Rattle.paper_rules.specs.Update.Updates.{append, update, ◌and_then◌}
 use Rattle.paper_rules.specs.Update.Extension.{Extends, HasRow, Updated}
 use Rattle.paper_rules.specs.Update.Appended.{appended}
@@ -33,15 +31,6 @@ raw_of b (Row length earliest latest mark) = some (append b (stated_row length e
 raw_of b (One f) = update_all b (fact_of f ∷ [])
 raw_of b (Two f g) = update_all b (fact_of f ∷ fact_of g ∷ [])
 
--- a row makes one job more
-abbrev pub jobs_with : ℕ → Stated → ℕ
-jobs_with n (Row length earliest latest mark) = suc n
-jobs_with n (One f) = n
-jobs_with n (Two f g) = n
-
-abbrev pub grown : Board → Stated → Board
-grown b s = with_jobs b (jobs_with b.jobs s)
-
 -- there is a place for the row, which is within its limits, and the facts are about jobs of the board
 abbrev pub Storable : ℕ → Stated → Type 0
 Storable n (Row length earliest latest mark) = (n < job_limit) × Fits (stated_row length earliest latest mark) × (mark ≤ 1)
@@ -53,12 +42,6 @@ abbrev pub HavePlaces : Stated → Type 0
 HavePlaces (Row length earliest latest mark) = Unit
 HavePlaces (One f) = AboutJobs job_limit (fact_of f)
 HavePlaces (Two f g) = AboutJobs job_limit (fact_of f) × AboutJobs job_limit (fact_of g)
-
--- on any board of n jobs within its limits the arrays are altered to those of the board that shows what is stated, or there is none
-abbrev pub States : Stated → ℕ → List ℤ → List ℤ → List ℤ → List ℕ → List ℕ → List ℕ → Bool → List ℤ → List ℤ → List ℤ → List ℕ → List ℕ → List ℕ → Type 0
-States s n lengths earliest latest marks after before possible lengths' earliest' latest' marks' after' before' =
-    (b : Board) → b.jobs ≡ n → Within (filled b lengths earliest latest marks after before)
-    → raw_of (filled b lengths earliest latest marks after before) s ≡ possibly possible (filled (grown b s) lengths' earliest' latest' marks' after' before')
 
 -- facts that have a place among n jobs have one among all
 pub have_places : (n : ℕ) (s : Stated) → n ≤ job_limit → Storable n s → HavePlaces s
@@ -94,40 +77,31 @@ pub two_shown : (b : Board) (f g : Fact) → update b f ≡ some b → update b 
 unfolding update_all ◌and_then◌
 two_shown b f g e d = rw (e, d)
 
--- ---- facts put on the arrays
+-- ---- facts put on the board
 
-pub one_fact : (b : Board) (f : Fact) → update b f ≡ update_all b (f ∷ [])
+pub one_fact : (b : Board) (f : Fact) → update_all b (f ∷ []) ≡ update b f
 unfolding update_all ◌and_then◌
 one_fact b f = same (update b f)
   where
-    same : (o : Option Board) → o ≡ o and_then (λ c. some c)
+    same : (o : Option Board) → (o and_then (λ c. some c)) ≡ o
     same none = refl
     same (some c) = refl
-
-module _ (n : ℕ) (lengths earliest latest : List ℤ) (marks after before : List ℕ) (f : Fact) (known : AboutJobs n f)
-    (lengths' earliest' latest' : List ℤ) (marks' after' before' : List ℕ)
-    (step : Alters n (λ b. update b f) lengths earliest latest marks after before true lengths' earliest' latest' marks' after' before') where
-  -- the board that a fact leads to is within its limits
-  step_within : (b : Board) → b.jobs ≡ n → Within (filled b lengths earliest latest marks after before) → Within (filled b lengths' earliest' latest' marks' after' before')
-  step_within b jobs within =
-      let led = updated (filled b lengths earliest latest marks after before) within f (subst (λ m. AboutJobs m f) (sym jobs) known) in
-      (subst (Updated (filled b lengths earliest latest marks after before) f) (step b jobs within) led).more.within
-
-  pub arrays_within : ArraysWithin n lengths earliest latest marks after before → ArraysWithin n lengths' earliest' latest' marks' after' before'
-  arrays_within h = record { board = h.board; jobs = h.jobs; within = step_within h.board h.jobs h.within }
-
-  pub second_fact : (g : Fact) (possible : Bool) (lengths'' earliest'' latest'' : List ℤ) (marks'' after'' before'' : List ℕ)
-      → Alters n (λ b. update b g) lengths' earliest' latest' marks' after' before' possible lengths'' earliest'' latest'' marks'' after'' before''
-      → Alters n (λ b. update_all b (f ∷ g ∷ [])) lengths earliest latest marks after before possible lengths'' earliest'' latest'' marks'' after'' before''
-  unfolding update_all ◌and_then◌
-  second_fact g possible lengths'' earliest'' latest'' marks'' after'' before'' more b jobs within =
-      rw (step b jobs within) (sym (one_fact (filled b lengths' earliest' latest' marks' after' before') g) ∙ more b jobs (step_within b jobs within))
 
 pub first_fails : (b : Board) (f g : Fact) → update b f ≡ none → update_all b (f ∷ g ∷ []) ≡ none
 unfolding update_all ◌and_then◌
 first_fails b f g e = rw e
 
--- a row put at the first place without a job
-pub row_stated : (n : ℕ) (lengths earliest latest : List ℤ) (marks after before : List ℕ) (length start end : ℤ) (mark : ℕ)
-    → States (Row length start end mark) n lengths earliest latest marks after before true (set lengths n length) (set earliest n start) (set latest n end) (set marks n mark) after before
-row_stated n lengths earliest latest marks after before length start end mark b jobs within = rw jobs
+-- the second fact is put on what the first one leaves
+pub second_fact : (b c : Board) (f g : Fact) → update b f ≡ some c → update_all b (f ∷ g ∷ []) ≡ update c g
+unfolding update_all ◌and_then◌
+second_fact b c f g e = rw e (one_fact c g)
+
+-- which is within its limits, and has the same jobs
+pub first_leaves : (b c : Board) (f g : Fact) → Within b → AboutJobs b.jobs f → AboutJobs b.jobs g → update b f ≡ some c → Within c × AboutJobs c.jobs g
+first_leaves b c f g within known other e =
+    let step = subst (Updated b f) e (updated b within f known) in
+    (step.more.within, subst⁻¹ (λ n. AboutJobs n g) step.more.jobs other)
+
+pub ruleset shown_facts = (one_shown, two_shown)
+
+pub ruleset put_facts = (one_fact, first_fails, second_fact, have_places)

@@ -10,7 +10,7 @@ use paper_board::Board;
 use paper_board::facts::{Fact, Side};
 use paper_entries::Entry;
 
-// A job's row, or one fact, or two: a cut states a bound on either side.
+// A job's row, or one fact, or two: a cut states a bound on either side. The mark is the number that the board holds and C sees.
 #[derive(Clone, Copy)]
 pub enum Stated {
     Row {

@@ -1,6 +1,7 @@
--- Propagation on a board's arrays, and the jobs struck out that can't stay: it is a run of inferences.
+-- Propagation on a board, and the jobs struck out that can't stay: it is a run of inferences.
 use Rattle.std.specs.Prelude.{◌≡◌, refl, Bool, true, false, cond, not, ◌&&◌, List, ◌≢◌, ℕ, ◌<◌, ◌^◌, eqb, ltb, ℤ, get_or}
-use Rattle.std.proofs.Common.{sym, ap, ◌∙◌, subst, arith, le-ltb}
+use Rattle.std.specs.Prelude as std
+use Rattle.std.proofs.Common.{sym, ap, ◌∙◌, arith, le-ltb}
 use Rattle.std.proofs.Math.Bool.{and-true, and-false}
 use Rattle.std.proofs.Math.Option.{none}
 use Rattle.std.proofs.Math.Decide.{dec_lt}
@@ -13,10 +14,11 @@ use Rattle.paper_board.specs.declared.Board.{Board}
 use Rattle.paper_board.specs.Paper.View.{Live, Valid, view, row_of}
 use Rattle.paper_board.specs.Paper.Limits.{job_limit, Within}
 use Rattle.paper_board.specs.BoardTests.Live.{live_yes, valid_yes, valid_show}
-use Rattle.paper_rules.specs.Update.ArraysWithin.{filled, possibly, ArraysWithin}
-use Rattle.paper_rules.specs.Update.Strike.{strike}
+use Rattle.paper_board.specs.Paper.Parts.{filled}
+use Rattle.paper_rules.specs.Update.Strike.{strike, strike_below}
 use Rattle.paper_rules.specs.Update.StrikeLaws.{strike_member, strike_other}
 use Rattle.paper_rules.specs.Update.Derives.{Derived, Derives, derived_self}
+use Rattle.engine_marks.specs.declared.Marks.{Marks}
 use Rattle.engine_marks.specs.Marked.{marked, unmarked, bit_live, bit_valid}
 use Rattle.engine_exclusion.specs.Gone.{AllGone, gone_valid, struck_all}
 use Rattle.engine_propagation.specs.Turns.{Turns, Onward, Shut}
@@ -60,87 +62,66 @@ module _ (c : Board) (within : Within c) (set : ℕ) where
           let none-valid = sym (bit_set_of c.jobs (λ k. eqb (get_or c.marks k 0) 1) x) ∙ (rw e at none_both) in
           and-false (ltb x c.jobs) ∙ sym none-valid
 
--- On any board of n jobs within its limits inferences lead to where the arrays are altered to; or there is no board.
-abbrev pub Advances : ℕ → List ℤ → List ℤ → List ℤ → List ℕ → List ℕ → List ℕ → Bool → List ℤ → List ℤ → List ℤ → List ℕ → List ℕ → List ℕ → Type 0
-Advances n lengths earliest latest marks after before possible lengths' earliest' latest' marks' after' before' =
-    (b : Board) → b.jobs ≡ n → Within (filled b lengths earliest latest marks after before)
-    → Derives (filled b lengths earliest latest marks after before) (possibly possible (filled b lengths' earliest' latest' marks' after' before'))
+-- Inferences lead from the board b to the board c, which has these live and valid jobs; or there is no board.
+abbrev pub Advances : Board → std.Option Marks → Board → Type 0
+Advances b std.None c = Derives b none
+Advances b (std.Some sets) c = Derived b c × (sets.live ≡ unmarked c.jobs c.marks 2) × (sets.valid ≡ marked c.jobs c.marks 1)
 
--- what propagation promises of the arrays of a board of n jobs, with the words of its live and its valid jobs
-module _ (n : ℕ) (lengths earliest latest : List ℤ) (marks after before : List ℕ) (lives valids : ℕ)
-    (is_live : lives ≡ unmarked n marks 2) (is_valid : valids ≡ marked n marks 1)
-    (earliest' latest' : List ℤ) (after' before' : List ℕ) (stuck : ℕ)
-    (onward : Onward lives valids lengths earliest latest before after earliest' latest' before' after')
-    (shut : Shut lives valids lengths earliest latest before after stuck) where
-  module _ (b : Board) (jobs : b.jobs ≡ n) (within : Within (filled b lengths earliest latest marks after before)) where
-    abbrev start : Board
-    start = filled b lengths earliest latest marks after before
+-- what propagation promises of a board within its limits, with the words of its live and its valid jobs
+module _ (start end : Board) (within : Within start) (lives valids : ℕ)
+    (is_live : lives ≡ unmarked start.jobs start.marks 2) (is_valid : valids ≡ marked start.jobs start.marks 1)
+    (kept : end ≡ filled start start.lengths end.earliest end.latest start.marks end.after end.before) (stuck : ℕ)
+    (onward : Onward lives valids start.lengths start.earliest start.latest start.before start.after end.earliest end.latest end.before end.after)
+    (shut : Shut lives valids start.lengths start.earliest start.latest start.before start.after stuck) where
+  lives_are : (x : ℕ) → bit lives x ≡ true → Live (view start) x
+  lives_are x e = live_yes (view start) x (sym (ap (λ w. bit w x) is_live ∙ bit_live start x) ∙ e)
 
-    abbrev end : Board
-    end = filled b lengths earliest' latest' marks after' before'
+  valids_are : (x : ℕ) → bit valids x ≡ true → Valid (view start) x
+  valids_are x e = valid_yes (view start) x (sym (ap (λ w. bit w x) is_valid ∙ bit_valid start x) ∙ e)
 
-    lives_are : (x : ℕ) → bit lives x ≡ true → Live (view start) x
-    lives_are x e = live_yes (view start) x (sym (ap (λ w. bit w x) (rw (← jobs) at is_live) ∙ bit_live start x) ∙ e)
+  begun : Turns start lives valids start.earliest start.latest start.before start.after
+  begun = record { lives = lives_are; sound = valids_are; derived = derived_self start within }
 
-    valids_are : (x : ℕ) → bit valids x ≡ true → Valid (view start) x
-    valids_are x e = valid_yes (view start) x (sym (ap (λ w. bit w x) (rw (← jobs) at is_valid) ∙ bit_valid start x) ∙ e)
+  led : Derived start end
+  led = rw kept (onward start refl begun).derived
 
-    begun : Turns start lives valids earliest latest before after
-    begun = record { lives = lives_are; sound = valids_are; derived = derived_self start within }
+  gone : AllGone start stuck
+  gone = shut start refl begun
 
-    led : Derived start end
-    led = (onward start refl begun).derived
+  -- none of those that can't stay is valid
+  undecided : intersection stuck valids ≡ 0 → (x : ℕ) → bit stuck x ≡ true → (row_of end x).mark ≢ 1
+  undecided apart x e one =
+      let valid : bit valids x ≡ true = ap (λ w. bit w x) is_valid ∙ bit_valid start x ∙ valid_show (view start) x ((gone.gone x e).0.0, rw kept at one) in
+      refuted (sym (bit_intersection stuck valids x) ∙ ap (λ w. bit w x) apart ∙ bit_zero x) (rw (e, valid))
 
-    gone : AllGone start stuck
-    gone = shut start refl begun
+  live_end : lives ≡ unmarked end.jobs end.marks 2
+  live_end = rw kept is_live
 
-    -- a valid job can't stay
-    contradiction : (both : ℕ) → both ≡ intersection stuck valids → both ≢ 0 → both < 2 ^ job_limit → Derives start none
-    contradiction both e some-job width = excluded _ (trailing_lowest job_limit both some-job width)
-      where
-        excluded : (x : ℕ) → Lowest job_limit both x → Derives start none
-        excluded x low =
-            let (out, valid) = and_parts (bit stuck x) (bit valids x) (sym (ap (λ w. bit w x) e ∙ bit_intersection stuck valids x) ∙ low.member) in
-            gone_valid start stuck x gone out (valids_are x valid)
-
-    -- none of those that can't stay is valid
-    undecided : intersection stuck valids ≡ 0 → (x : ℕ) → bit stuck x ≡ true → (row_of end x).mark ≢ 1
-    undecided apart x e one =
-        let valid : bit valids x ≡ true = ap (λ w. bit w x) (rw (← jobs) at is_valid) ∙ bit_valid start x ∙ valid_show (view start) x ((gone.gone x e).0.0, one) in
-        refuted (sym (bit_intersection stuck valids x) ∙ ap (λ w. bit w x) apart ∙ bit_zero x) (rw (e, valid))
-
-    struck : intersection stuck valids ≡ 0 → Derived start (strike end stuck)
-    struck apart = struck_all start end led stuck gone (undecided apart) (λ x e. (gone.gone x e).0.1)
+  valid_end : valids ≡ marked end.jobs end.marks 1
+  valid_end = rw kept is_valid
 
   -- all jobs can stay
-  pub advanced : Advances n lengths earliest latest marks after before true lengths earliest' latest' marks after' before'
-  advanced b jobs within = led b jobs within
+  pub advanced : Derived start end × (lives ≡ unmarked end.jobs end.marks 2) × (valids ≡ marked end.jobs end.marks 1)
+  advanced = (led, live_end, valid_end)
 
   -- a valid one can't
-  pub advanced_none : (both : ℕ) → both ≡ intersection stuck valids → both ≢ 0 → both < 2 ^ job_limit
-      → (b : Board) → b.jobs ≡ n → Within (filled b lengths earliest latest marks after before) → Derives (filled b lengths earliest latest marks after before) none
-  advanced_none both e some-job width b jobs within = contradiction b jobs within both e some-job width
+  pub advanced_none : (both : ℕ) → both ≡ intersection stuck valids → both ≢ 0 → both < 2 ^ job_limit → Derives start none
+  advanced_none both e some-job width = excluded _ (trailing_lowest job_limit both some-job width)
+    where
+      excluded : (x : ℕ) → Lowest job_limit both x → Derives start none
+      excluded x low =
+          let (out, valid) = and_parts (bit stuck x) (bit valids x) (sym (ap (λ w. bit w x) e ∙ bit_intersection stuck valids x) ∙ low.member) in
+          gone_valid start stuck x gone out (valids_are x valid)
 
   -- others can't, and are struck out
-  pub advanced_struck : intersection stuck valids ≡ 0
-      → (lengths'' earliest'' latest'' : List ℤ) (marks'' after'' before'' : List ℕ)
-      → ((b : Board) → b.jobs ≡ n
-      → filled b lengths'' earliest'' latest'' marks'' after'' before'' ≡ strike (filled b lengths earliest' latest' marks after' before') stuck)
-      → Advances n lengths earliest latest marks after before true lengths'' earliest'' latest'' marks'' after'' before''
-  advanced_struck apart lengths'' earliest'' latest'' marks'' after'' before'' is b jobs within =
-      subst (Derived (filled b lengths earliest latest marks after before)) (sym (is b jobs)) (struck b jobs within apart)
-
-  -- and what is left of the live jobs and of the valid ones
-  pub struck_sets : intersection stuck valids ≡ 0 → stuck < 2 ^ job_limit → (rest : ℕ) → rest ≡ difference job_limit lives stuck
-      → (lengths'' earliest'' latest'' : List ℤ) (marks'' after'' before'' : List ℕ)
-      → ((b : Board) → b.jobs ≡ n
-      → filled b lengths'' earliest'' latest'' marks'' after'' before'' ≡ strike (filled b lengths earliest' latest' marks after' before') stuck)
-      → ArraysWithin n lengths earliest latest marks after before → (rest ≡ unmarked n marks'' 2) × (valids ≡ marked n marks'' 1)
-  struck_sets apart width rest e lengths'' earliest'' latest'' marks'' after'' before'' is h =
-      let b = h.board in
-      let c = filled b lengths earliest' latest' marks after' before' in
-      let within = (led b h.jobs h.within).more.within in
-      let same = ap (λ x. x.marks) (is b h.jobs) in (
-        e ∙ rw (is_live, same, ← h.jobs) (sym (struck_live c within stuck width)),
-        is_valid ∙ rw (same, ← h.jobs) (sym (struck_valid c within stuck (rw (is_valid, ← h.jobs) at apart))),
+  pub advanced_struck : intersection stuck valids ≡ 0 → stuck < 2 ^ job_limit → (rest : ℕ) → rest ≡ difference job_limit lives stuck
+      → (c : Board) → c ≡ strike end stuck → Derived start c × (rest ≡ unmarked c.jobs c.marks 2) × (valids ≡ marked c.jobs c.marks 1)
+  unfolding strike_below
+  advanced_struck apart width rest e c is =
+      let struck : Derived start (strike end stuck) =
+      struck_all start end led stuck gone (undecided apart) (λ x e two. (gone.gone x e).0.1 (rw kept at two)) in
+      rw is (
+        struck,
+        e ∙ ap (λ w. difference job_limit w stuck) live_end ∙ sym (struck_live end led.more.within stuck width),
+        valid_end ∙ sym (struck_valid end led.more.within stuck (ap (intersection stuck) (sym valid_end) ∙ apart)),
       )

@@ -1,5 +1,6 @@
 -- Arcs set one after the other: what is inferred of each in its turn makes the whole a run of inferences.
 use Rattle.std.specs.Prelude.{◌≡◌, List, ℕ, get_or, set}
+use Rattle.std.proofs.Common.{ap, ◌∙◌}
 use Rattle.std.proofs.Math.Option.{some}
 use Rattle.ground_sets.specs.Bit.{with}
 use Rattle.paper_board.specs.declared.Board.{Board}
@@ -9,13 +10,20 @@ use Rattle.paper_board.specs.Paper.Limits.{Within}
 use Rattle.paper_rules.specs.Order.OrderLaws.{arc_up}
 use Rattle.paper_rules.specs.Inference.Infers.{Infers, r1, r3}
 use Rattle.paper_board.specs.BoardTests.Live.{live_show}
-use Rattle.paper_rules.specs.Update.ArraysWithin.{filled}
+use Rattle.paper_board.specs.Paper.Parts.{filled}
 use Rattle.paper_rules.specs.Update.Updates.{link, update}
 use Rattle.paper_rules.specs.Update.Derives.{Derived, derived_self, derives_then, derives_further}
 
 -- the board b with other arcs
 abbrev pub with_arcs : Board → List ℕ → List ℕ → Board
 with_arcs b before after = filled b b.lengths b.earliest b.latest b.marks after before
+
+-- the two boards differ in arcs alone
+abbrev pub ArcsAlone : Board → Board → Type 0
+ArcsAlone b c = c ≡ with_arcs b c.before c.after
+
+pub arcs_alone_then : (b c d : Board) → ArcsAlone b c → ArcsAlone c d → ArcsAlone b d
+arcs_alone_then b c d first second = second ∙ ap (λ x. with_arcs x d.before d.after) first
 
 -- On any board with the arcs `before` and `after` of which P holds, inferences lead to the arcs `before'` and `after'`.
 abbrev pub Sound : (Board → Type 0) → List ℕ → List ℕ → List ℕ → List ℕ → Type 0

@@ -4,16 +4,14 @@
 ghost use Rattle.std.specs.Prelude.{◌≡◌, ◌<◌, get_or, set};
 ghost use Rattle.std.proofs.Math.Option.{some};
 ghost use Rattle.ground_sets.specs.Bit.{with};
-ghost use Rattle.paper_board.specs.declared.Board as boards;
 ghost use Rattle.paper_board.specs.Paper.Limits.{job_limit, Within};
 ghost use Rattle.paper_board.specs.Paper.Facts.{is_arc};
 ghost use Rattle.paper_rules.specs.Update.Updates as updates;
 ghost use Rattle.paper_rules.specs.Update.Shown.{arc_shown};
-ghost use Rattle.paper_rules.specs.Update.ArraysWithin.{filled};
 
 use paper_board::Board;
 
-// An arc, in both words that keep it.
+// An arc, in both words that keep it. It takes these two alone, since propagation lends no more.
 pub fn link(before: &mut [u64; Board::JOBS], after: &mut [u64; Board::JOBS], from: usize, to: usize)
     requires { (from < job_limit) × (to < job_limit) }
     ensures before_after { before.new ≡ set before.old to (with (get_or before.old to 0) from) }
@@ -24,37 +22,22 @@ pub fn link(before: &mut [u64; Board::JOBS], after: &mut [u64; Board::JOBS], fro
 }
 
 // Does the arc stand, or is one of its jobs invalid?
-pub fn is_joined<'a>(
-    marks: &'a [u8; Board::JOBS],
-    after: &'a [u64; Board::JOBS],
-    from: usize,
-    to: usize,
-) -> bool
+pub fn is_joined(board: &Board, from: usize, to: usize) -> bool
     requires { (from < job_limit) × (to < job_limit) }
-    ensures { (b : boards.Board) → result ≡ arc_shown (filled b b.lengths b.earliest b.latest marks.now after.now b.before) from to }
+    ensures { result ≡ arc_shown board.now from to }
 {
-    if marks[from] == Board::INVALID {
-        return true;
-    }
-    if marks[to] == Board::INVALID {
-        return true;
-    }
-    ground_sets::has(after[from], to)
+    board.marks[from] == Board::INVALID
+        || board.marks[to] == Board::INVALID
+        || ground_sets::has(board.after[from], to)
 }
 
 // An arc between jobs that may both take place; other arcs count as shown.
-pub fn join(
-    marks: &[u8; Board::JOBS],
-    after: &mut [u64; Board::JOBS],
-    before: &mut [u64; Board::JOBS],
-    from: usize,
-    to: usize,
-)
+#[tactic(auto, using(paper_rules::specs::Update::Shown::showing))]
+pub fn join(board: &mut Board, from: usize, to: usize)
     requires { (from < job_limit) × (to < job_limit) }
-    ensures { (b : boards.Board) → from < b.jobs → to < b.jobs → let c = filled b b.lengths b.earliest b.latest marks.now after.old before.old in Within c → updates.update c (is_arc from to) ≡ some (filled b b.lengths b.earliest b.latest marks.now after.new before.new) }
+    ensures { from < board.old.jobs → to < board.old.jobs → Within board.old → updates.update board.old (is_arc from to) ≡ some board.new }
 {
-    if is_joined(marks, after, from, to) {
-        return;
+    if !is_joined(board, from, to) {
+        link(&mut board.before, &mut board.after, from, to);
     }
-    link(before, after, from, to);
 }

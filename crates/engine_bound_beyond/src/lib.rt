@@ -5,13 +5,13 @@ ghost use Rattle.std.specs.Prelude.{◌≡◌, true, ◌≢◌, ◌<◌};
 ghost use Rattle.ground_sets.specs.Bit.{bit};
 ghost use Rattle.paper_board.specs.Paper.Limits.{job_limit};
 ghost use Rattle.paper_board.specs.Paper.Values.{side_of};
-ghost use Rattle.engine_sums.specs.Sums.{bound_of, Times, Lengths};
+ghost use Rattle.engine_sums.specs.Sums.{bound_of};
 ghost use Rattle.engine_bound_beyond.specs.BoundBeyond.{ApartSet, Says, BoundBeyond};
 
 use engine_energy::{ends_by, energy_bound};
-use engine_sums::{EnergyBound, single_bound};
+use engine_neighbours::Neighbours;
+use engine_sums::bounds::Bounds;
 use paper_board::Board;
-use paper_board::facts::Side;
 
 // A last job of the set: one with none of the others on its opposite side. Where each has one, as on a cycle, any job will do.
 pub fn last(set: u64, opposite: &[u64; Board::JOBS]) -> usize
@@ -39,53 +39,37 @@ pub fn standing_apart(set: u64, k: usize, word: u64) -> u64
 
 // The bound that a set of jobs, all beyond `job` on one side, leaves to it, where it is above its own. Most of them lie beyond a last
 // one, whose bound has room for them already: where none stands apart it alone decides, and where some do they seldom push a job on a board
-// where nothing is left to move. The search asks that first (`few`); propagation, whose jobs mostly do move, takes the sums at once, and
-// goes by an order of the jobs instead, where it has one (`engine_leading`).
-fn bound_of<'a>(
-    side: Side,
-    job: usize,
-    set: u64,
-    times: &'a [i32; Board::JOBS],
-    lengths: &'a [i32; Board::JOBS],
-    beyond: &'a [u64; Board::JOBS],
-    opposite: &'a [u64; Board::JOBS],
-    few: bool,
-) -> EnergyBound
-    requires { (job < job_limit) × (set ≢ 0) × Times times.now × Lengths lengths.now }
-    ensures { Says (side_of side) times.now lengths.now beyond.now set job (bound_of (side_of side) result) }
+// where nothing is left to move, so that is asked first. Propagation, whose jobs mostly do move, goes another way (`engine_leading`).
+fn bound_of(bounds: Bounds<'_>, job: usize, set: u64, neighbours: Neighbours<'_>) -> Option<i32>
+    requires { (job < job_limit) × (set ≢ 0) }
+    ensures { Says (side_of bounds.entry.side) bounds.entry.times.now bounds.entry.lengths.now neighbours.entry.beyond.now set job (bound_of (side_of bounds.entry.side) result) }
 {
-    let k = last(set, opposite);
-    let apart = standing_apart(set, k, beyond[k]);
+    let floor = bounds.times[job];
+    let k = last(set, neighbours.opposite);
+    let apart = standing_apart(set, k, neighbours.beyond[k]);
     if apart == 0 {
-        return single_bound(side, times, lengths, k, times[job]);
+        return bounds.single(k, floor);
     }
-    if few
-        && apart != ground_sets::without(set, k)
-        && ends_by(side, times, lengths, k, apart, times[job])
-    {
-        return EnergyBound::Unbounded;
+    if apart != ground_sets::without(set, k) && ends_by(bounds, k, apart, floor) {
+        return None;
     }
-    energy_bound(side, times, lengths, set, times[job])
+    energy_bound(bounds, set, floor)
 }
 
-// R4 and R5: the bound that the valid jobs beyond a job on one side leave to it, where it is above its own. `times` and `beyond` are
-// those of that side.
-pub fn bound_beyond<'a>(
-    side: Side,
+// R4 and R5: the bound that the valid jobs beyond a job on one side leave to it, where it is above its own. The neighbours are those on
+// the side of the bounds.
+pub fn bound_beyond(
+    bounds: Bounds<'_>,
     job: usize,
-    times: &'a [i32; Board::JOBS],
-    lengths: &'a [i32; Board::JOBS],
-    beyond: &'a [u64; Board::JOBS],
-    opposite: &'a [u64; Board::JOBS],
+    neighbours: Neighbours<'_>,
     valid: u64,
-    few: bool,
-) -> EnergyBound
-    requires { (job < job_limit) × Times times.now × Lengths lengths.now }
-    ensures { BoundBeyond (side_of side) times.now lengths.now beyond.now valid job (bound_of (side_of side) result) }
+) -> Option<i32>
+    requires { job < job_limit }
+    ensures { BoundBeyond (side_of bounds.entry.side) bounds.entry.times.now bounds.entry.lengths.now neighbours.entry.beyond.now valid job (bound_of (side_of bounds.entry.side) result) }
 {
-    let set = ground_sets::intersection(valid, beyond[job]);
+    let set = ground_sets::intersection(valid, neighbours.beyond[job]);
     if set == 0 {
-        return EnergyBound::Unbounded;
+        return None;
     }
-    bound_of(side, job, set, times, lengths, beyond, opposite, few)
+    bound_of(bounds, job, set, neighbours)
 }

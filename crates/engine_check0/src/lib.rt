@@ -5,32 +5,19 @@
 ghost use Rattle.std.specs.Prelude.{◌≡◌};
 ghost use Rattle.paper_closure.specs.Passes as check;
 
-use engine_findings::Found;
 use engine_limits::{books_within, within_limits};
-use engine_marks::sets;
+use engine_marks::Marks;
 use engine_search::find;
 use paper_board::Board;
+use paper_board::facts::Fact;
 
 // A board within its limits is closed over what it shows where nothing is left to infer.
-pub fn passes(b: Board) -> bool
-    ensures { result ≡ check.passes b }
+pub fn passes(board: &Board) -> bool
+    ensures { result ≡ check.passes board.now }
 {
-    if !within_limits(b) || !books_within(b.books) {
+    if !within_limits(board) || !books_within(board.books) {
         return false;
     }
-    let sets = sets(b.jobs, &b.marks);
-    let found = find(
-        sets.live,
-        sets.valid,
-        &b.earliest,
-        &b.latest,
-        &b.lengths,
-        &b.before,
-        &b.after,
-    );
-    if let Found::Nothing = found {
-        true
-    } else {
-        false
-    }
+    let inferred: Option<Fact> = find(board, Marks::of(board));
+    inferred.is_none()
 }

@@ -1,6 +1,6 @@
 -- Detectable precedence is sound: a job that would end too late after another comes before it, as R3 infers.
 use Rattle.std.specs.Prelude.{◌≡◌, true, List, ◌≢◌, ℕ, ◌<◌, ◌^◌, ℤ, pos, ◌+ℤ◌, get_or, set}
-use Rattle.std.proofs.Common.{sym}
+use Rattle.std.proofs.Common.{ap}
 use Rattle.std.specs.Int.Signed.{lt_z}
 use Rattle.ground_sets.specs.Bit.{bit, difference, with, without}
 use Rattle.ground_sets.specs.BitLaws.{bit_difference, bit_without, without_lt}
@@ -11,7 +11,21 @@ use Rattle.paper_board.specs.Paper.Limits.{job_limit}
 use Rattle.paper_board.specs.BoardTests.Decides.{retested, ◌and◌, negated, holds, eq}
 use Rattle.paper_rules.specs.Inference.Infers.{r3}
 use Rattle.paper_board.specs.BoardTests.Sets.{Subset}
-use Rattle.engine_arcs.specs.Arcs.{Sound, sound_none, sound_link, sound_then}
+use Rattle.engine_sums.specs.Sums.{Times, Lengths}
+use Rattle.engine_arcs.specs.Arcs.{ArcsAlone, Sound, sound_none, sound_link, sound_then}
+
+-- the windows of the board and its lengths are in range
+abbrev pub WindowsInRange : Board → Type 0
+WindowsInRange b = Times b.earliest × Times b.latest × Lengths b.lengths
+
+-- where P, said of a board's windows and lengths, holds of the board b, inferences lead from its arcs to those of c
+abbrev pub BoardSound : (List ℤ → List ℤ → List ℤ → Board → Type 0) → Board → Board → Type 0
+BoardSound P b c = Sound (P b.earliest b.latest b.lengths) b.before b.after c.before c.after
+
+-- what has been inferred since from a board that differs in arcs alone
+pub sound_since : (P : List ℤ → List ℤ → List ℤ → Board → Type 0) (b c d : Board) → ArcsAlone b c → BoardSound P c d
+    → Sound (P b.earliest b.latest b.lengths) c.before c.after d.before d.after
+sound_since P b c d kept run = rw (ap (λ x. x.earliest) kept, ap (λ x. x.latest) kept, ap (λ x. x.lengths) kept) at run
 
 -- the arrays are the board's own
 pub record ArraysRead (earliest latest lengths : List ℤ) (b : Board) : Type 0 where
@@ -53,12 +67,6 @@ module _ (earliest latest lengths : List ℤ) (before after : List ℕ) where
       second first before' after' e d λ b h p derived.
       let test = rw (← p.read.is_latest, ← p.read.is_lengths, ← p.read.is_earliest) at late in
       r3 first second p.live.0 p.live.1 p.differ (omega (whole, test))
-
-  -- the same pair, named the other way round
-  pub turned_pair : (first second : ℕ) (before' after' : List ℕ) → Sound (Pair first second earliest latest lengths) before after before' after'
-      → Sound (Pair second first earliest latest lengths) before after before' after'
-  turned_pair first second before' after' run b h p =
-      run b h (record { live = (p.live.1, p.live.0); differ = λ e. p.differ (sym e); read = p.read })
 
   -- one other job more
   pub beside_more : (job others : ℕ) (before' after' : List ℕ) → Sound (Beside job others earliest latest lengths) before after before' after'

@@ -23,7 +23,8 @@ fn is_dominated(side: Side, set: u64, word: u64, time: i32, other: i32) -> bool
 }
 
 // The job whose sums on one side serve for those of `job`: `former`, where it is done and dominates it, or else `job` itself. Where
-// no valid jobs lie beyond `job` there are no sums, and `former` is kept for the jobs to come.
+// no valid jobs lie beyond `job` there are no sums, and `former` is kept for the jobs to come. The times come alone: no length is read here,
+// and so none is asked for.
 pub fn representative<'a>(
     side: Side,
     job: usize,

@@ -1,10 +1,2 @@
-// What a search finds: a fact that the rules infer and that the board doesn't show yet, or nothing.
+// What a search finds: a fact that the rules infer and that the board doesn't show yet, or nothing. Only definitions: no code.
 #![tactic(auto)]
-
-use paper_board::facts::Fact;
-
-#[derive(Clone, Copy)]
-pub enum Found {
-    Nothing,
-    Inferred(Fact),
-}

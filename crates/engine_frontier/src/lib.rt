@@ -2,16 +2,14 @@
 #![tactic(auto)]
 
 use engine_bound_beyond::last;
+use engine_neighbours::Neighbours;
+use ground_walks::Members;
 use paper_board::Board;
 
 // The jobs of a set with no job of `pushing` beyond them.
 fn unpushed(set: u64, pushing: u64, beyond: &[u64; Board::JOBS]) -> u64 {
     let mut found = 0;
-    let mut left = set;
-    while left != 0 {
-        let taken = ground_walks::take_lowest(left);
-        left = taken.rest;
-        let k = taken.member;
+    for k in Members::of(set) {
         if ground_sets::intersection(beyond[k], pushing) == 0 {
             found = ground_sets::with(found, k);
         }
@@ -21,17 +19,15 @@ fn unpushed(set: u64, pushing: u64, beyond: &[u64; Board::JOBS]) -> u64 {
 
 // The jobs to move next, in topological order: those that are due with no valid one that is due beyond them. `last`, asked from the other
 // side, gives a first one, and what lies behind it has to wait. Nothing is promised of it: any set is sound to move.
-pub fn frontier<'a>(
-    due: u64,
-    valid: u64,
-    beyond: &'a [u64; Board::JOBS],
-    opposite: &'a [u64; Board::JOBS],
-) -> u64 {
+pub fn frontier(due: u64, valid: u64, neighbours: Neighbours<'_>) -> u64 {
     let pushing = ground_sets::intersection(due, valid);
     if pushing == 0 {
         return due;
     }
-    let first = last(pushing, beyond);
-    let beside = ground_sets::difference(ground_sets::without(due, first), opposite[first]);
-    ground_sets::with(unpushed(beside, pushing, beyond), first)
+    let first = last(pushing, neighbours.beyond);
+    let beside = ground_sets::difference(
+        ground_sets::without(due, first),
+        neighbours.opposite[first],
+    );
+    ground_sets::with(unpushed(beside, pushing, neighbours.beyond), first)
 }

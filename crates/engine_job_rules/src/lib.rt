@@ -4,75 +4,66 @@
 ghost use Rattle.std.specs.Prelude.{◌<◌};
 ghost use Rattle.paper_board.specs.Paper.Limits.{job_limit};
 ghost use Rattle.paper_board.specs.Paper.Values.{side_of};
-ghost use Rattle.engine_sums.specs.Sums.{Times, Lengths};
 ghost use Rattle.engine_findings.specs.InferredOf.{inferred_of};
 ghost use Rattle.engine_job_rules.specs.JobSearched.{SideSearched, JobSearched};
 
 use engine_bound_beyond::bound_beyond;
-use engine_findings::Found;
-use engine_sums::EnergyBound;
+use engine_neighbours::{Arcs, Neighbours};
+use engine_sums::bounds::{Bounds, Windows};
 use engine_windows::Window;
-use paper_board::Board;
 use paper_board::facts::{Fact, Side};
 
 // What the valid jobs on one side of a job infer of its window. Where another job represents it there, nothing is left to infer.
-fn at_side<'a>(
-    side: Side,
+fn at_side(
+    bounds: Bounds<'_>,
     job: usize,
     representative: usize,
-    times: &'a [i32; Board::JOBS],
-    lengths: &'a [i32; Board::JOBS],
-    beyond: &'a [u64; Board::JOBS],
-    opposite: &'a [u64; Board::JOBS],
+    neighbours: Neighbours<'_>,
     valid: u64,
-) -> Found
-    requires { (job < job_limit) × Times times.now × Lengths lengths.now }
-    ensures { SideSearched (side_of side) job representative times.now lengths.now beyond.now valid (inferred_of result) }
+) -> Option<Fact>
+    requires { job < job_limit }
+    ensures { SideSearched (side_of bounds.entry.side) job representative bounds.entry.times.now bounds.entry.lengths.now neighbours.entry.beyond.now valid (inferred_of result) }
 {
     if representative != job {
-        return Found::Nothing;
+        return None;
     }
-    let bound = bound_beyond(side, job, times, lengths, beyond, opposite, valid, true);
-    let EnergyBound::At(time) = bound else {
-        return Found::Nothing;
-    };
-    Found::Inferred(Fact::Bound { side, job, time })
+    let time = bound_beyond(bounds, job, neighbours, valid)?;
+    Some(Fact::Bound {
+        side: bounds.side,
+        job,
+        time,
+    })
 }
 
-// What R6, R4 and R5 infer of job i, with its representatives on either side and the words of the arcs before and after all jobs.
-pub fn at_job<'a>(
+// What R6, R4 and R5 infer of job i, with its representatives on either side.
+pub fn at_job(
     i: usize,
     early: usize,
     late: usize,
-    earliest: &'a [i32; Board::JOBS],
-    latest: &'a [i32; Board::JOBS],
-    lengths: &'a [i32; Board::JOBS],
-    before: &'a [u64; Board::JOBS],
-    after: &'a [u64; Board::JOBS],
+    windows: Windows<'_>,
+    arcs: Arcs<'_>,
     valid: u64,
-) -> Found
-    requires { (i < job_limit) × Times earliest.now × Times latest.now × Lengths lengths.now }
-    ensures { JobSearched i early late earliest.now latest.now lengths.now before.now after.now valid (inferred_of result) }
+) -> Option<Fact>
+    requires { i < job_limit }
+    ensures { JobSearched i early late windows.entry.earliest.now windows.entry.latest.now windows.entry.lengths.now arcs.entry.before.now arcs.entry.after.now valid (inferred_of result) }
 {
     let window = Window {
-        earliest: earliest[i],
-        latest: latest[i],
+        earliest: windows.earliest[i],
+        latest: windows.latest[i],
     };
-    if !window.holds(lengths[i]) {
-        return Found::Inferred(Fact::Invalid { job: i });
+    if !window.holds(windows.lengths[i]) {
+        return Some(Fact::Invalid { job: i });
     }
     let raised = at_side(
-        Side::Early,
+        windows.on(Side::Early),
         i,
         early,
-        earliest,
-        lengths,
-        before,
-        after,
+        arcs.on(Side::Early),
         valid,
     );
-    if let Found::Inferred(fact) = raised {
-        return Found::Inferred(fact);
+    // Not by a closure after it: nothing would be told of what one with these calls gives.
+    if raised.is_some() {
+        return raised;
     }
-    at_side(Side::Late, i, late, latest, lengths, after, before, valid)
+    at_side(windows.on(Side::Late), i, late, arcs.on(Side::Late), valid)
 }

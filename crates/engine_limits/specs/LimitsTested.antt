@@ -1,6 +1,6 @@
 -- The limits of a board as the code tests them: what every place holds, and that the words after the jobs agree with the words before
 -- them. Together these are the limits.
-use Rattle.std.specs.Prelude.{◌≡◌, ◌≢◌, Bool, true, List, ℕ, ◌<◌, ◌≤◌, ℤ, pos, length, get_or}
+use Rattle.std.specs.Prelude.{◌≡◌, ◌≢◌, Bool, true, List, ℕ, ◌<◌, ◌≤◌, length, get_or}
 use Rattle.std.proofs.Common.{sym, ◌∙◌, arith}
 use Rattle.std.proofs.Math.Decide.{dec_lt}
 use Rattle.ground_sets.specs.Bit.{bit, width}
@@ -13,21 +13,13 @@ use Rattle.paper_board.specs.BoardTests.WithinLimits.{within_limits}
 use Rattle.paper_board.specs.BoardTests.Decides.{Decides, restated, same_decision}
 use Rattle.paper_board.proofs.LimitsDecided.{decides_limits, past, past_row}
 use Rattle.engine_agreement.specs.Agree.{Agree}
-use Rattle.engine_places.specs.Place.{row, Place, blank_limits}
-
--- what place k holds, and what every place holds
-abbrev pub PlaceAt : ℕ → List ℕ → List ℤ → List ℤ → List ℤ → List ℕ → List ℕ → ℕ → Type 0
-PlaceAt n marks lengths earliest latest after before k =
-    Place n k (row (get_or marks k 0) (get_or lengths k (pos 0)) (get_or earliest k (pos 0)) (get_or latest k (pos 0))) (get_or after k 0) (get_or before k 0)
-
-abbrev pub EveryPlace : ℕ → List ℕ → List ℤ → List ℤ → List ℤ → List ℕ → List ℕ → Type 0
-EveryPlace n marks lengths earliest latest after before = (k : ℕ) → k < job_limit → PlaceAt n marks lengths earliest latest after before k
+use Rattle.engine_places.specs.Place.{Place, blank_limits}
 
 -- ---- the board
 
 module _ (b : Board) where
   abbrev pub PlacesHeld : Type 0
-  PlacesHeld = EveryPlace b.jobs b.marks b.lengths b.earliest b.latest b.after b.before
+  PlacesHeld = (k : ℕ) → k < job_limit → Place b k
 
   within_held : Within b → PlacesHeld
   within_held w k l = (w.limits.rows k, (after, before))

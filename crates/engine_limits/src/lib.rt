@@ -10,50 +10,20 @@ use engine_agreement::agree;
 use engine_places::place_holds;
 use paper_board::{Board, Books};
 
-fn places_hold<'a>(
-    jobs: usize,
-    marks: &'a [u8; Board::JOBS],
-    lengths: &'a [i32; Board::JOBS],
-    earliest: &'a [i32; Board::JOBS],
-    latest: &'a [i32; Board::JOBS],
-    after: &'a [u64; Board::JOBS],
-    before: &'a [u64; Board::JOBS],
-) -> bool
-    ensures { Decides result (parts.EveryPlace jobs marks.now lengths.now earliest.now latest.now after.now before.now) }
+fn places_hold(board: &Board) -> bool
+    ensures { Decides result (parts.PlacesHeld board.now) }
 {
-    for k in 0..Board::JOBS {
-        if !place_holds(
-            jobs,
-            k,
-            marks[k],
-            lengths[k],
-            earliest[k],
-            latest[k],
-            after[k],
-            before[k],
-        ) {
-            return false;
-        }
-    }
-    true
+    (0..Board::JOBS).all(|k| place_holds(board, k))
 }
 
 // The board's limits, its books aside.
-pub fn within_limits(b: Board) -> bool
-    ensures { result ≡ limits.within_limits b }
+pub fn within_limits(board: &Board) -> bool
+    ensures { result ≡ limits.within_limits board.now }
 {
-    if b.jobs > Board::JOBS {
+    if board.jobs > Board::JOBS {
         return false;
     }
-    places_hold(
-        b.jobs,
-        &b.marks,
-        &b.lengths,
-        &b.earliest,
-        &b.latest,
-        &b.after,
-        &b.before,
-    ) && agree(&b.after, &b.before)
+    places_hold(board) && agree(&board.after, &board.before)
 }
 
 pub fn books_within(books: Books) -> bool

@@ -11,22 +11,17 @@ ghost use Rattle.engine_sums.specs.Sums as sums;
 use engine_energy::{energy_bound, whole};
 use engine_makespan::in_order;
 use engine_order::Order;
-use engine_sums::{EnergyBound, above, bound, turned};
-use paper_board::Board;
-use paper_board::facts::Side;
+use engine_sums::bounds::Bounds;
+use engine_sums::{above, turned};
+use ground_walks::Members;
 
 // Jobs of a set: those with a bound of `start` or more.
-fn bounded_from(side: Side, times: &[i32; Board::JOBS], set: u64, start: i32) -> u64
-    requires { sums.Times times.now }
+fn bounded_from(bounds: Bounds<'_>, set: u64, start: i32) -> u64
     ensures { Subset result set }
 {
     let mut found = 0;
-    let mut left = set;
-    while left != 0 {
-        let taken = ground_walks::take_lowest(left);
-        left = taken.rest;
-        let k = taken.member;
-        if start <= bound(side, times, k) {
+    for k in Members::of(set) {
+        if start <= bounds.at(k) {
             found = ground_sets::with(found, k);
         }
     }
@@ -36,45 +31,30 @@ fn bounded_from(side: Side, times: &[i32; Board::JOBS], set: u64, start: i32) ->
 // Does an end that no sum of a set is above decide what their greatest sum above `low` is? It does where it is no higher than `low`, and where
 // the jobs with bounds from `start` on, where its last block begins if the order was right, come to it. A `false` too many costs time and no
 // answer.
-fn decides(
-    side: Side,
-    times: &[i32; Board::JOBS],
-    lengths: &[i32; Board::JOBS],
-    set: u64,
-    low: i32,
-    start: i32,
-    end: i32,
-) -> bool
-    requires { sums.Times times.now × sums.Lengths lengths.now × sums.Exceeds (sums.Sum (paper.side_of side) times.now lengths.now set) end none }
-    ensures { result ≡ true → sums.Exceeds (sums.Sum (paper.side_of side) times.now lengths.now set) low (sums.over low end) }
+fn decides(bounds: Bounds<'_>, set: u64, low: i32, start: i32, end: i32) -> bool
+    requires { sums.Exceeds (sums.Sum (paper.side_of bounds.side) bounds.times.now bounds.lengths.now set) end none }
+    ensures { result ≡ true → sums.Exceeds (sums.Sum (paper.side_of bounds.entry.side) bounds.entry.times.now bounds.entry.lengths.now set) low (sums.over low end) }
 {
     if end <= low {
         return true;
     }
-    let block = bounded_from(side, times, set, start);
+    let block = bounded_from(bounds, set, start);
     if block == 0 {
         return false;
     }
-    let all = whole(side, times, lengths, block);
+    let all = whole(bounds, block);
     ground_arithmetic::sum(all.least, all.total) == end
 }
 
 // The greatest sum of a set of jobs, where it is above the floor, a time: by an order of the jobs, where one is known and decides it.
-pub fn ordered_bound(
-    side: Side,
-    times: &[i32; Board::JOBS],
-    lengths: &[i32; Board::JOBS],
-    set: u64,
-    floor: i32,
-    order: Order,
-) -> EnergyBound
-    requires { sums.Times times.now × sums.Lengths lengths.now × Moderate floor }
-    ensures { sums.Exceeds (sums.Sum (paper.side_of side) times.now lengths.now set) (paper.turned (paper.side_of side) floor) (sums.bound_of (paper.side_of side) result) }
+pub fn ordered_bound(bounds: Bounds<'_>, set: u64, floor: i32, order: &Order) -> Option<i32>
+    requires { Moderate floor }
+    ensures { sums.Exceeds (sums.Sum (paper.side_of bounds.entry.side) bounds.entry.times.now bounds.entry.lengths.now set) (paper.turned (paper.side_of bounds.entry.side) floor) (sums.bound_of (paper.side_of bounds.entry.side) result) }
 {
-    let low = turned(side, floor);
-    let sequence = in_order(side, times, lengths, set, order);
-    if sequence.left == 0 && decides(side, times, lengths, set, low, sequence.start, sequence.end) {
-        return above(side, low, sequence.end);
+    let low = turned(bounds.side, floor);
+    let sequence = in_order(bounds, set, order);
+    if sequence.left == 0 && decides(bounds, set, low, sequence.start, sequence.end) {
+        return above(bounds.side, low, sequence.end);
     }
-    energy_bound(side, times, lengths, set, floor)
+    energy_bound(bounds, set, floor)
 }

@@ -9,7 +9,6 @@ ghost use Rattle.paper_board.specs.Paper.Limits.{job_limit};
 ghost use Rattle.engine_findings.specs.InferredOf.{inferred_of};
 ghost use Rattle.engine_pair_rules.specs.PairSearched.{PairSearched, PairTested, Unjoined};
 
-use engine_findings::Found;
 use paper_board::facts::Fact;
 
 // R3: does k, started once i has ended, end too late?
@@ -20,81 +19,74 @@ pub fn is_late(end: i32, length: i32, latest: i32) -> bool
     latest < ground_arithmetic::sum(end, length)
 }
 
-// R2: are there arcs both ways between the valid job i and k?
-fn excludes(i: usize, k: usize, valid: u64, after: u64, before: u64) -> bool
-    requires { (i < job_limit) × (k < job_limit) }
-    ensures { result ≡ (bit after k && bit before k && bit valid i) }
-{
-    ground_sets::has(ground_sets::intersection(after, before), k) && ground_sets::has(valid, i)
+// What the rules read at a pair of jobs: the valid jobs, the sets after and before the first job, the set after the second, and whether
+// the second would end too late after the first.
+#[derive(Clone, Copy)]
+pub struct Pair {
+    pub first: usize,
+    pub second: usize,
+    pub valid: u64,
+    pub after: u64,
+    pub before: u64,
+    pub onward: u64,
+    pub late: bool,
+    ghost places: { (first < job_limit) × (second < job_limit) },
 }
 
-// R3: has k to come before i, with no arc from k to i yet?
-fn orders(k: usize, before: u64, late: bool) -> bool
-    requires { k < job_limit }
-    ensures { result ≡ (late && not (bit before k)) }
-{
-    late && !ground_sets::has(before, k)
-}
+impl Pair {
+    // R2: are there arcs both ways between the two jobs, and is the first valid?
+    fn excludes(self) -> bool
+        ensures { result ≡ (bit self.after self.second && bit self.before self.second && bit self.valid self.first) }
+    {
+        let both = ground_sets::intersection(self.after, self.before);
+        ground_sets::has(both, self.second) && ground_sets::has(self.valid, self.first)
+    }
 
-// R1: the jobs after the valid job k, itself after i, to which there is no arc from i yet.
-fn unjoined(i: usize, k: usize, valid: u64, after: u64, onward: u64) -> u64
-    requires { (i < job_limit) × (k < job_limit) }
-    ensures { Unjoined i k valid after onward result }
-{
-    if ground_sets::has(ground_sets::intersection(valid, after), k) {
-        return ground_sets::difference(ground_sets::without(onward, i), after);
+    // R3: has the second to come before the first, with no arc that way yet?
+    fn orders(self) -> bool
+        ensures { result ≡ (self.late && not (bit self.before self.second)) }
+    {
+        self.late && !ground_sets::has(self.before, self.second)
     }
-    0
-}
 
-// Does R1, R2 or R3 apply at the pair of i and k? `after` and `before` are the sets of i, `onward` is the set after k, and `late`
-// says whether k would end too late after i.
-pub fn applies(
-    i: usize,
-    k: usize,
-    valid: u64,
-    after: u64,
-    before: u64,
-    onward: u64,
-    late: bool,
-) -> bool
-    requires { (i < job_limit) × (k < job_limit) }
-    ensures { PairTested i k valid after before onward late result }
-{
-    if excludes(i, k, valid, after, before) {
-        return true;
+    // R1: the jobs after the second, valid and itself after the first, to which there is no arc from the first yet.
+    fn unjoined(self) -> u64
+        ensures { Unjoined self.first self.second self.valid self.after self.onward result }
+    {
+        let through = ground_sets::intersection(self.valid, self.after);
+        if !ground_sets::has(through, self.second) {
+            return 0;
+        }
+        ground_sets::difference(ground_sets::without(self.onward, self.first), self.after)
     }
-    if orders(k, before, late) {
-        return true;
-    }
-    unjoined(i, k, valid, after, onward) != 0
-}
 
-// What R1, R2 and R3 infer at the pair, from the same numbers.
-pub fn at_pair(
-    i: usize,
-    k: usize,
-    valid: u64,
-    after: u64,
-    before: u64,
-    onward: u64,
-    late: bool,
-) -> Found
-    requires { (i < job_limit) × (k < job_limit) }
-    ensures { PairSearched i k valid after before onward late (inferred_of result) }
-{
-    if excludes(i, k, valid, after, before) {
-        return Found::Inferred(Fact::Invalid { job: k });
+    // Does R1, R2 or R3 apply at the pair?
+    pub fn applies(self) -> bool
+        ensures { PairTested self.first self.second self.valid self.after self.before self.onward self.late result }
+    {
+        self.excludes() || self.orders() || self.unjoined() != 0
     }
-    if orders(k, before, late) {
-        return Found::Inferred(Fact::Arc { from: k, to: i });
+
+    // What R1, R2 and R3 infer at the pair.
+    pub fn inferred(self) -> Option<Fact>
+        ensures { PairSearched self.first self.second self.valid self.after self.before self.onward self.late (inferred_of result) }
+    {
+        if self.excludes() {
+            return Some(Fact::Invalid { job: self.second });
+        }
+        if self.orders() {
+            return Some(Fact::Arc {
+                from: self.second,
+                to: self.first,
+            });
+        }
+        let missing = self.unjoined();
+        if missing != 0 {
+            return Some(Fact::Arc {
+                from: self.first,
+                to: ground_walks::lowest(missing),
+            });
+        }
+        None
     }
-    let missing = unjoined(i, k, valid, after, onward);
-    if missing != 0 {
-        return Found::Inferred(Fact::Arc {
-            from: i,
-            to: ground_walks::lowest(missing),
-        });
-    }
-    Found::Nothing
 }

@@ -47,7 +47,7 @@ OrderLeft latest lengths i lives valids before after end =
 
 module _ (latest lengths : List ℤ) where
   -- one job more
-  pub in_time_lesser : (set : ℕ) {left k rest : ℕ} (least : ℤ) → Takes job_limit false left k rest
+  pub in_time_lesser : (set : ℕ) {left k rest : ℕ} {downward : Bool} (least : ℤ) → Takes job_limit downward left k rest
       → ((j : ℕ) → bit set j ≡ true → bit left j ≡ false → InTime latest lengths least j)
       → (j : ℕ) → bit set j ≡ true → bit rest j ≡ false
       → InTime latest lengths (lesser least (get_or latest k (pos 0) -ℤ length_at lengths k)) j
@@ -126,8 +126,8 @@ none_looked after set fits =
       done = λ x e out. absurd (refuted out e);
     }
 
--- the least job k that is left is looked at
-module _ {after : List ℕ} {set left all k others : ℕ} (p : Looked after set left all) (taken : Takes job_limit false left k others) (narrow : union all (get_or after k 0) < 2 ^ job_limit) where
+-- the next job k that is left is looked at
+module _ {after : List ℕ} {set left all k others : ℕ} {downward : Bool} (p : Looked after set left all) (taken : Takes job_limit downward left k others) (narrow : union all (get_or after k 0) < 2 ^ job_limit) where
   abbrev next : ℕ
   next = union all (get_or after k 0)
 

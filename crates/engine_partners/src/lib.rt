@@ -6,56 +6,49 @@ ghost use Rattle.std.specs.Int.Signed.{lt_z};
 ghost use Rattle.ground_sets.specs.Bit.{bit};
 ghost use Rattle.ground_arithmetic.specs.Time.{Moderate};
 ghost use Rattle.paper_board.specs.Paper.Limits.{job_limit};
-ghost use Rattle.engine_sums.specs.Sums.{Times, Lengths};
 ghost use Rattle.engine_partners.specs.Partners.{AllInTime, LateLeft, KeptApart, OrderLeft, Reaches, JoinLeft};
 ghost use Rattle.engine_partners.specs.RowRead.{RowLeft};
 
+use engine_marks::Marks;
 use engine_pair_rules::is_late;
+use engine_sums::bounds::Bounds;
+use ground_walks::Members;
 use paper_board::Board;
 
-// The least of the latest starts of a set: no job of it ends too late after one that ends by then.
-pub fn latest_start(set: u64, latest: &[i32; Board::JOBS], lengths: &[i32; Board::JOBS]) -> i32
-    requires { Times latest.now × Lengths lengths.now }
-    ensures { AllInTime latest.now lengths.now set result }
+// The least of the latest starts of a set, whose latest ends are those of the bounds: no job of it ends too late after one that ends by then.
+pub fn latest_start(set: u64, ends: Bounds<'_>) -> i32
+    ensures { AllInTime ends.entry.times.now ends.entry.lengths.now set result }
 {
     let mut least = Board::LAST_MINUTE;
-    let mut left = set;
-    while left != 0 {
-        let taken = ground_walks::take_lowest(left);
-        left = taken.rest;
-        let k = taken.member;
-        least = ground_arithmetic::lesser(least, ground_arithmetic::gap(latest[k], lengths[k]));
+    for k in Members::of(set) {
+        least = ground_arithmetic::lesser(
+            least,
+            ground_arithmetic::gap(ends.times[k], ends.lengths[k]),
+        );
     }
     least
 }
 
 // R3: does k, started at `end`, end too late?
-pub fn ends_late(
-    k: usize,
-    end: i32,
-    latest: &[i32; Board::JOBS],
-    lengths: &[i32; Board::JOBS],
-) -> bool
-    requires { (k < job_limit) × Moderate end × Times latest.now × Lengths lengths.now }
-    ensures { result ≡ lt_z (get_or latest.now k (pos 0)) (end +ℤ get_or lengths.now k (pos 0)) }
+pub fn ends_late(k: usize, end: i32, ends: Bounds<'_>) -> bool
+    requires { (k < job_limit) × Moderate end }
+    ensures { result ≡ lt_z (get_or ends.entry.times.now k (pos 0)) (end +ℤ get_or ends.entry.lengths.now k (pos 0)) }
 {
-    is_late(end, lengths[k], latest[k])
+    is_late(end, ends.lengths[k], ends.times[k])
 }
 
 // R3: the jobs of the set from the first on that would end too late after a job that ends at `end`.
-fn late(set: u64, end: i32, latest: &[i32; Board::JOBS], lengths: &[i32; Board::JOBS]) -> u64
-    requires { Moderate end × Times latest.now × Lengths lengths.now }
-    ensures { LateLeft latest.now lengths.now set end result }
+fn late(set: u64, end: i32, ends: Bounds<'_>) -> u64
+    requires { Moderate end }
+    ensures { LateLeft ends.entry.times.now ends.entry.lengths.now set end result }
 {
-    let mut left = set;
-    while left != 0 {
-        let k = ground_walks::lowest(left);
-        if ends_late(k, end, latest, lengths) {
-            return left;
+    let mut jobs = Members::of(set);
+    while let Some(k) = jobs.next() {
+        if ends_late(k, end, ends) {
+            return ground_sets::with(jobs.left, k);
         }
-        left = ground_walks::take_lowest(left).rest;
     }
-    left
+    0
 }
 
 // Of the jobs `beside`, which have an arc to or from i, those that R4 to R6 keep apart from it, since i or they are valid.
@@ -72,27 +65,24 @@ pub fn kept_apart(i: usize, valid: u64, beside: u64) -> u64
 // R3: the jobs to test, which may have no arc to i though they would end too late after it.
 fn ordered(
     i: usize,
-    live: u64,
-    valid: u64,
+    sets: Marks,
     before: u64,
     after: u64,
     end: i32,
     least: i32,
-    latest: &[i32; Board::JOBS],
-    lengths: &[i32; Board::JOBS],
+    ends: Bounds<'_>,
 ) -> u64
-    requires { (i < job_limit) × Moderate end × Times latest.now × Lengths lengths.now × AllInTime latest.now lengths.now live least }
-    ensures { OrderLeft latest.now lengths.now i live valid before after end result }
+    requires { (i < job_limit) × Moderate end × AllInTime ends.times.now ends.lengths.now sets.live least }
+    ensures { OrderLeft ends.entry.times.now ends.entry.lengths.now i sets.live sets.valid before after end result }
 {
     if end <= least {
         return 0;
     }
-    let apart = ground_sets::union(before, kept_apart(i, valid, after));
+    let apart = ground_sets::union(before, kept_apart(i, sets.valid, after));
     late(
-        ground_sets::difference(ground_sets::without(live, i), apart),
+        ground_sets::difference(ground_sets::without(sets.live, i), apart),
         end,
-        latest,
-        lengths,
+        ends,
     )
 }
 
@@ -112,12 +102,10 @@ fn reach(set: u64, after: &[u64; Board::JOBS]) -> u64
     ensures { Reaches after.now set result }
 {
     let mut all = 0;
-    let mut left = set;
-    while left != 0 {
-        let taken = ground_walks::take_lowest(left);
-        let k = taken.member;
+    let mut jobs = Members::of(set);
+    while let Some(k) = jobs.next() {
         all = ground_sets::union(all, after[k]);
-        left = ground_sets::difference(taken.rest, all);
+        jobs.left = ground_sets::difference(jobs.left, all);
     }
     all
 }
@@ -135,24 +123,22 @@ fn joined(i: usize, valid: u64, after: u64, afters: &[u64; Board::JOBS]) -> u64
     through
 }
 
-// The jobs to pair with i, which ends at `end`; `before` and `after` are its sets.
-pub fn partners<'a>(
+// The jobs to pair with i, which ends at `end`; `before` and `after` are its sets, and `afters` those after all jobs.
+pub fn partners(
     i: usize,
-    live: u64,
-    valid: u64,
+    sets: Marks,
     before: u64,
     after: u64,
     end: i32,
     least: i32,
-    latest: &'a [i32; Board::JOBS],
-    lengths: &'a [i32; Board::JOBS],
-    afters: &'a [u64; Board::JOBS],
+    ends: Bounds<'_>,
+    afters: &[u64; Board::JOBS],
 ) -> u64
-    requires { (i < job_limit) × Moderate end × Times latest.now × Lengths lengths.now × AllInTime latest.now lengths.now live least }
-    ensures { RowLeft i live valid before after end latest.now lengths.now afters.now result }
+    requires { (i < job_limit) × Moderate end × AllInTime ends.times.now ends.lengths.now sets.live least }
+    ensures { RowLeft i sets.live sets.valid before after end ends.entry.times.now ends.entry.lengths.now afters.now result }
 {
-    let late = ordered(i, live, valid, before, after, end, least, latest, lengths);
-    let both = excluded(i, valid, before, after);
-    let through = joined(i, valid, after, afters);
+    let late = ordered(i, sets, before, after, end, least, ends);
+    let both = excluded(i, sets.valid, before, after);
+    let through = joined(i, sets.valid, after, afters);
     ground_sets::union(ground_sets::union(late, both), through)
 }

@@ -17,7 +17,7 @@ use Rattle.paper_board.specs.Paper.Limits.{IsTime, Within}
 use Rattle.paper_board.specs.Paper.Values.{turned}
 use Rattle.paper_rules.specs.Inference.Infers.{Infers}
 use Rattle.paper_board.specs.BoardTests.Live.{live_show}
-use Rattle.paper_rules.specs.Update.ArraysWithin.{filled}
+use Rattle.paper_board.specs.Paper.Parts.{filled}
 use Rattle.paper_rules.specs.Update.Updates.{update, tighten}
 use Rattle.paper_rules.specs.Update.Derives.{Derived, Derives, derived_self, derives_then, derives_further}
 use Rattle.engine_sums.specs.Sums.{bound_at, length_at, Times, Lengths, Pushes}

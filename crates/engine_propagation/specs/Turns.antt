@@ -8,7 +8,7 @@ use Rattle.ground_arithmetic.specs.Bools.{and_parts}
 use Rattle.paper_board.specs.declared.Board.{Board}
 use Rattle.paper_board.specs.Paper.View.{Live, Valid, early, late, view}
 use Rattle.paper_board.specs.Paper.Limits.{job_limit}
-use Rattle.paper_rules.specs.Update.ArraysWithin.{filled}
+use Rattle.paper_board.specs.Paper.Parts.{filled}
 use Rattle.paper_rules.specs.Update.Derives.{Derived, derives_then}
 use Rattle.paper_board.specs.BoardTests.Sets.{subset_difference}
 use Rattle.engine_exclusion.specs.Gone.{AllGone, Crossed, Unfit, none_gone, both_gone, gone_before, crossed_gone, unfit_gone}
@@ -23,7 +23,7 @@ pub record Marked (live valids : ℕ) (earliest latest lengths : List ℤ) (b : 
   pub sound : AllValid valids b
 
 -- the board b with other windows and arcs
-abbrev tabled : Board → List ℤ → List ℤ → List ℕ → List ℕ → Board
+abbrev pub tabled : Board → List ℤ → List ℤ → List ℕ → List ℕ → Board
 tabled b earliest latest before after = filled b b.lengths earliest latest b.marks after before
 
 -- After some turns from the board b: the words are those of live and of valid jobs of b, and the arrays were derived from it.
@@ -70,6 +70,17 @@ Onward live valids lengths earliest latest before after earliest' latest' before
 abbrev pub Shut : ℕ → ℕ → List ℤ → List ℤ → List ℤ → List ℕ → List ℕ → ℕ → Type 0
 Shut live valids lengths earliest latest before after stuck =
     (b : Board) → b.lengths ≡ lengths → Turns b live valids earliest latest before after → AllGone b stuck
+
+-- the same from one board on, and to another
+abbrev pub BoardOnward : ℕ → ℕ → Board → Board → Type 0
+BoardOnward live valids b c = Onward live valids b.lengths b.earliest b.latest b.before b.after c.earliest c.latest c.before c.after
+
+abbrev pub BoardShut : ℕ → ℕ → Board → ℕ → Type 0
+BoardShut live valids b stuck = Shut live valids b.lengths b.earliest b.latest b.before b.after stuck
+
+-- the two boards differ in windows and arcs alone
+abbrev pub TablesAlone : Board → Board → Type 0
+TablesAlone b c = c ≡ tabled b c.earliest c.latest c.before c.after
 
 pub shut_none : (live valids : ℕ) (lengths earliest latest : List ℤ) (before after : List ℕ) → Shut live valids lengths earliest latest before after 0
 shut_none live valids lengths earliest latest before after b same h = none_gone b

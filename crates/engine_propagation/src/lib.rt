@@ -2,22 +2,22 @@
 // complete: it leaves the search little to find.
 #![tactic(auto)]
 
-ghost use Rattle.std.specs.Prelude.{List, ℕ, ℤ};
 ghost use Rattle.paper_board.specs.Paper.Values.{side_of};
 ghost use Rattle.engine_sums.specs.Sums.{Times, Lengths};
+ghost use Rattle.engine_detection.specs.Detection.{WindowsInRange};
 ghost use Rattle.engine_precedence.specs.Precedence.{Raises, PrecedenceRead, Shuts};
-ghost use Rattle.engine_propagation.specs.Turns.{Onward, Shut};
+ghost use Rattle.engine_propagation.specs.Turns.{BoardOnward, BoardShut, TablesAlone};
 
-use engine_agenda::{
-    Agenda, among, checked, detected, due_on, is_done, joined, moved_on, moved_side, next_side,
-    pushed,
-};
+use engine_agenda::Agenda;
 use engine_detection::detect_arcs;
-use engine_ends::Ends;
 use engine_exclusion::{excluded, unfit};
 use engine_frontier::frontier;
+use engine_marks::Marks;
+use engine_neighbours::{Arcs, Neighbours};
 use engine_order::Order;
 use engine_precedence::push;
+use engine_sides::Sides;
+use engine_sums::bounds::Windows;
 use engine_transitivity::join_arcs;
 use paper_board::Board;
 use paper_board::facts::Side;
@@ -33,133 +33,116 @@ pub struct Turned {
 }
 
 // R2 and R1 at new arcs. R2 comes first: on a cycle of valid jobs the windows would move on and on.
-fn turn_arcs(
-    before: &mut [u64; Board::JOBS],
-    after: &mut [u64; Board::JOBS],
-    live: u64,
-    valid: u64,
-    left: Agenda,
-) -> Turned
-    ensures onward { (lengths earliest latest : List ℤ) → Onward live valid lengths earliest latest before.old after.old earliest latest before.new after.new }
-    ensures shut { (lengths earliest latest : List ℤ) → Shut live valid lengths earliest latest before.old after.old result.stuck }
+fn turn_arcs(board: &mut Board, marks: Marks, left: Agenda) -> Turned
+    requires { WindowsInRange board.old }
+    ensures hours { WindowsInRange board.new }
+    ensures onward { BoardOnward marks.live marks.valid board.old board.new }
+    ensures kept { TablesAlone board.old board.new }
+    ensures shut { BoardShut marks.live marks.valid board.old result.stuck }
 {
     if left.crossed != 0 {
-        let set = ground_sets::intersection(left.crossed, valid);
-        let stuck = excluded(set, before, after);
+        let set = ground_sets::intersection(left.crossed, marks.valid);
+        let arcs = Arcs {
+            before: &board.before,
+            after: &board.after,
+        };
         return Turned {
-            left: checked(left),
-            stuck,
+            left: left.checked(),
+            stuck: excluded(set, arcs),
         };
     }
-    let through = ground_sets::intersection(left.through, valid);
-    let found: Ends = join_arcs(before, after, through, live);
+    let through = ground_sets::intersection(left.through, marks.valid);
+    let found = join_arcs(board, through, marks.live);
     Turned {
-        left: joined(left, found),
+        left: left.joined(found),
         stuck: 0,
     }
 }
 
 // R6 and R3 at the jobs whose windows have moved.
-fn turn_order<'a>(
-    before: &mut [u64; Board::JOBS],
-    after: &mut [u64; Board::JOBS],
-    earliest: &'a [i32; Board::JOBS],
-    latest: &'a [i32; Board::JOBS],
-    lengths: &'a [i32; Board::JOBS],
-    live: u64,
-    valid: u64,
-    left: Agenda,
-) -> Turned
-    requires { Times earliest.now × Times latest.now × Lengths lengths.now }
-    ensures onward { Onward live valid lengths.now earliest.now latest.now before.old after.old earliest.now latest.now before.new after.new }
-    ensures shut { Shut live valid lengths.now earliest.now latest.now before.old after.old result.stuck }
+fn turn_order(board: &mut Board, marks: Marks, left: Agenda) -> Turned
+    requires { WindowsInRange board.old }
+    ensures hours { WindowsInRange board.new }
+    ensures onward { BoardOnward marks.live marks.valid board.old board.new }
+    ensures kept { TablesAlone board.old board.new }
+    ensures shut { BoardShut marks.live marks.valid board.old result.stuck }
 {
-    let moved = ground_sets::union(left.raised, left.lowered);
-    let stuck = unfit(
-        ground_sets::intersection(moved, live),
-        earliest,
-        latest,
-        lengths,
-    );
+    let windows = Windows {
+        earliest: &board.earliest,
+        latest: &board.latest,
+        lengths: &board.lengths,
+    };
+    let moved = ground_sets::intersection(left.moved.either(), marks.live);
+    let stuck = unfit(moved, windows);
     if stuck != 0 {
         return Turned { left, stuck };
     }
-    let side = moved_side(left);
-    let due = moved_on(left, side);
-    let found: Ends = detect_arcs(
-        side, before, after, due, live, valid, earliest, latest, lengths,
-    );
+    let side = left.moved_side();
+    let found = detect_arcs(board, side, *left.moved.on(side), marks);
     Turned {
-        left: detected(left, side, found),
+        left: left.detected(side, found),
         stuck: 0,
     }
 }
 
-// R4 or R5 on one side, at those of the jobs to move next that come first in topological order.
-fn turn_side<'a>(
+// R4 or R5 on one side, at those of the jobs to move next that come first in topological order. The side's times are altered while the
+// other side's are read: so they aren't one `Windows`.
+fn turn_side(
     side: Side,
     times: &mut [i32; Board::JOBS],
-    fixed: &'a [i32; Board::JOBS],
-    lengths: &'a [i32; Board::JOBS],
-    beyond: &'a [u64; Board::JOBS],
-    opposite: &'a [u64; Board::JOBS],
+    fixed: &[i32; Board::JOBS],
+    lengths: &[i32; Board::JOBS],
+    neighbours: Neighbours<'_>,
     valid: u64,
-    order: &mut [u64; Order::WORDS],
+    order: &mut Order,
     left: Agenda,
 ) -> Turned
     requires { Times times.old × Times fixed.now × Lengths lengths.now }
     ensures times { Times times.new }
-    ensures raises { Raises (side_of side) (PrecedenceRead (side_of side) fixed.now lengths.now beyond.now valid) times.old times.new }
-    ensures shuts { Shuts (side_of side) (PrecedenceRead (side_of side) fixed.now lengths.now beyond.now valid) times.old result.stuck }
+    ensures raises { Raises (side_of side) (PrecedenceRead (side_of side) fixed.now lengths.now neighbours.entry.beyond.now valid) times.old times.new }
+    ensures shuts { Shuts (side_of side) (PrecedenceRead (side_of side) fixed.now lengths.now neighbours.entry.beyond.now valid) times.old result.stuck }
 {
-    let set = frontier(due_on(left, side), valid, beyond, opposite);
-    let step = push(
-        side, set, times, fixed, lengths, beyond, opposite, valid, order,
-    );
+    let set = frontier(left.due_on(side), valid, neighbours);
+    let step = push(side, set, times, fixed, lengths, neighbours, valid, order);
     Turned {
-        left: pushed(left, side, set, step),
+        left: left.pushed(side, set, step),
         stuck: step.stuck,
     }
 }
 
 // R4 or R5, on the side on which jobs are to move next.
-fn turn_windows<'a>(
-    earliest: &mut [i32; Board::JOBS],
-    latest: &mut [i32; Board::JOBS],
-    lengths: &'a [i32; Board::JOBS],
-    before: &'a [u64; Board::JOBS],
-    after: &'a [u64; Board::JOBS],
-    valid: u64,
-    early_order: &mut [u64; Order::WORDS],
-    late_order: &mut [u64; Order::WORDS],
-    left: Agenda,
-) -> Turned
-    requires { Times earliest.old × Times latest.old × Lengths lengths.now }
-    ensures times { Times earliest.new × Times latest.new }
-    ensures by_index { (live : ℕ) → Onward live valid lengths.now earliest.old latest.old before.now after.now earliest.new latest.new before.now after.now }
-    ensures by_index_2 { (live : ℕ) → Shut live valid lengths.now earliest.old latest.old before.now after.now result.stuck }
+fn turn_windows(board: &mut Board, marks: Marks, orders: &mut Sides<Order>, left: Agenda) -> Turned
+    requires { WindowsInRange board.old }
+    ensures hours { WindowsInRange board.new }
+    ensures onward { BoardOnward marks.live marks.valid board.old board.new }
+    ensures kept { TablesAlone board.old board.new }
+    ensures shut { BoardShut marks.live marks.valid board.old result.stuck }
 {
-    match next_side(left) {
+    let side = left.next_side();
+    let order = orders.on_mut(side);
+    let arcs = Arcs {
+        before: &board.before,
+        after: &board.after,
+    };
+    match side {
         Side::Early => turn_side(
             Side::Early,
-            earliest,
-            latest,
-            lengths,
-            before,
-            after,
-            valid,
-            early_order,
+            &mut board.earliest,
+            &board.latest,
+            &board.lengths,
+            arcs.on(Side::Early),
+            marks.valid,
+            order,
             left,
         ),
         Side::Late => turn_side(
             Side::Late,
-            latest,
-            earliest,
-            lengths,
-            after,
-            before,
-            valid,
-            late_order,
+            &mut board.latest,
+            &board.earliest,
+            &board.lengths,
+            arcs.on(Side::Late),
+            marks.valid,
+            order,
             left,
         ),
     }
@@ -167,82 +150,53 @@ fn turn_windows<'a>(
 
 // One turn, of what is to be done first: the arcs before the windows, since the windows move along them, and a job's arcs as soon as it
 // has moved, before it moves others.
-fn turn(
-    earliest: &mut [i32; Board::JOBS],
-    latest: &mut [i32; Board::JOBS],
-    before: &mut [u64; Board::JOBS],
-    after: &mut [u64; Board::JOBS],
-    lengths: &[i32; Board::JOBS],
-    live: u64,
-    valid: u64,
-    early_order: &mut [u64; Order::WORDS],
-    late_order: &mut [u64; Order::WORDS],
-    left: Agenda,
-) -> Turned
-    requires { Times earliest.old × Times latest.old × Lengths lengths.now }
-    ensures times { Times earliest.new × Times latest.new }
-    ensures onward { Onward live valid lengths.now earliest.old latest.old before.old after.old earliest.new latest.new before.new after.new }
-    ensures shut { Shut live valid lengths.now earliest.old latest.old before.old after.old result.stuck }
+fn turn(board: &mut Board, marks: Marks, orders: &mut Sides<Order>, left: Agenda) -> Turned
+    requires { WindowsInRange board.old }
+    ensures hours { WindowsInRange board.new }
+    ensures onward { BoardOnward marks.live marks.valid board.old board.new }
+    ensures kept { TablesAlone board.old board.new }
+    ensures shut { BoardShut marks.live marks.valid board.old result.stuck }
 {
     if ground_sets::union(left.crossed, left.through) != 0 {
-        return turn_arcs(before, after, live, valid, left);
+        return turn_arcs(board, marks, left);
     }
-    if ground_sets::union(left.raised, left.lowered) != 0 {
-        return turn_order(before, after, earliest, latest, lengths, live, valid, left);
+    if left.moved.either() != 0 {
+        return turn_order(board, marks, left);
     }
-    turn_windows(
-        earliest,
-        latest,
-        lengths,
-        before,
-        after,
-        valid,
-        early_order,
-        late_order,
-        left,
-    )
+    turn_windows(board, marks, orders, left)
 }
 
 // Turn after turn, until nothing is left to do, or a valid job can't stay: then there is no board. Gives the jobs that can't stay, since they no
 // longer fit their windows or have arcs both ways to a valid job; nothing more is asked of them.
-pub fn propagate(
-    earliest: &mut [i32; Board::JOBS],
-    latest: &mut [i32; Board::JOBS],
-    before: &mut [u64; Board::JOBS],
-    after: &mut [u64; Board::JOBS],
-    lengths: &[i32; Board::JOBS],
-    live: u64,
-    valid: u64,
-    due: Agenda,
-) -> u64
-    requires { Times earliest.old × Times latest.old × Lengths lengths.now }
-    ensures onward { Onward live valid lengths.now earliest.old latest.old before.old after.old earliest.new latest.new before.new after.new }
-    ensures shut { Shut live valid lengths.now earliest.old latest.old before.old after.old result }
+pub fn propagate(board: &mut Board, marks: Marks, due: Agenda) -> u64
+    requires { WindowsInRange board.old }
+    ensures onward { BoardOnward marks.live marks.valid board.old board.new }
+    ensures kept { TablesAlone board.old board.new }
+    ensures shut { BoardShut marks.live marks.valid board.old result }
 {
     let mut left = due;
-    let mut rest = live;
+    let mut rest = marks.live;
     let mut stuck = 0;
-    let mut early_order = [0; Order::WORDS];
-    let mut late_order = [0; Order::WORDS];
+    let mut orders = Sides {
+        early: Order::unknown(),
+        late: Order::unknown(),
+    };
     for _ in 0..TURNS {
-        if is_done(left) || ground_sets::intersection(stuck, valid) != 0 {
+        if left.is_done() || ground_sets::intersection(stuck, marks.valid) != 0 {
             break;
         }
         let next = turn(
-            earliest,
-            latest,
-            before,
-            after,
-            lengths,
-            rest,
-            valid,
-            &mut early_order,
-            &mut late_order,
+            board,
+            Marks {
+                live: rest,
+                ..marks
+            },
+            &mut orders,
             left,
         );
         stuck = ground_sets::union(stuck, next.stuck);
         rest = ground_sets::difference(rest, next.stuck);
-        left = among(next.left, rest);
+        left = next.left.among(rest);
     }
     stuck
 }

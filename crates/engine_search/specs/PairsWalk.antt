@@ -1,26 +1,26 @@
 -- The walks over the rows of the pairs and over the jobs alone: the rows that are left, and the jobs that are left. All others have been
 -- searched, and nothing is left to infer there.
-use Rattle.std.specs.Prelude.{◌≡◌, List, ◌≢◌, true, ℕ, ◌<◌, ◌^◌, ℤ, pos, ◌+ℤ◌, get_or}
-use Rattle.std.proofs.Common.{ap, ◌∙◌, arith}
+use Rattle.std.specs.Prelude.{◌≡◌, refl, List, ◌≢◌, Bool, true, false, ℕ, ◌<◌, ◌^◌, ℤ, pos, ◌+ℤ◌, get_or}
+use Rattle.std.specs.Prelude as std
+use Rattle.std.proofs.Common.{ap, ◌∙◌, subst, ne_eqb}
+use Rattle.std.proofs.Math.Decide.{ℕ_discrete}
 use Rattle.std.proofs.Math.Option.{Option, none, some}
-use Rattle.ground_sets.specs.Bit.{bit, difference}
-use Rattle.ground_sets.specs.BitLaws.{bit_difference, part_at_most}
+use Rattle.ground_sets.specs.Bit.{bit, with}
+use Rattle.ground_sets.specs.BitLaws.{bit_with}
 use Rattle.ground_walks.specs.Walk.{Left}
-use Rattle.ground_arithmetic.specs.Bools.{is_false, refuted}
-use Rattle.ground_arithmetic.specs.Time.{Moderate}
+use Rattle.ground_arithmetic.specs.Bools.{refuted}
 use Rattle.paper_board.specs.declared.Board.{Board}
-use Rattle.paper_board.specs.Paper.View.{View, Live, Side, view}
+use Rattle.paper_board.specs.Paper.View.{View, Live, view}
 use Rattle.paper_board.specs.Paper.Facts.{Fact}
 use Rattle.paper_board.specs.Paper.Limits.{job_limit, Within}
 use Rattle.paper_board.specs.Paper.Tests.{live}
-use Rattle.paper_board.specs.BoardTests.Decides.{Decides, retested, ◌and◌, negated, holds, live_is}
+use Rattle.paper_board.specs.BoardTests.Decides.{Decides, retested, live_is}
 use Rattle.paper_rules.specs.Inference.Infers.{Obeys}
 use Rattle.engine_job_rules.specs.JobSearched.{JobRead, JobSettled}
 use Rattle.engine_job_rules.specs.JobSearched as jobs
 use Rattle.engine_findings.specs.Searched.{Searched, PairObeys}
-use Rattle.engine_job_rules.specs.SideSettled.{SideSettled}
-use Rattle.engine_search.specs.declared.Pair.{Pair}
-use Rattle.engine_search.specs.declared.Pair.TheVariants.{None, At}
+use Rattle.engine_pair_rules.specs.declared.Pair.{Pair}
+use Rattle.engine_pair_rules.specs.PairSearched.{PairRead}
 use Rattle.engine_partners.specs.RowRead.{RowRead}
 use Rattle.engine_partners.specs.PairSettled.{PairsSettled, RowSettled, pairs_settled_obey}
 
@@ -41,16 +41,14 @@ pub record AppliesAt (lives valids : ℕ) (earliest latest lengths : List ℤ) (
   pub applies : (b : Board) → BoardRead b lives valids earliest latest lengths before after
       → (PairObeys (view b) i k → ⊥) × Live (view b) i × (Live (view b) k × (i ≢ k))
 
--- what the loop over the pairs yields: a pair at which a rule applies, or none where all pairs are settled
-abbrev pub PairFound : ℕ → ℕ → List ℤ → List ℤ → List ℤ → List ℕ → List ℕ → Pair → Type 0
-PairFound lives valids earliest latest lengths before after None =
+-- what the loop over the pairs yields: a pair at which a rule applies, with what is read there, or none where all pairs are settled
+abbrev pub PairFound : ℕ → ℕ → List ℤ → List ℤ → List ℤ → List ℕ → List ℕ → std.Option Pair → Type 0
+PairFound lives valids earliest latest lengths before after std.None =
     (b : Board) → BoardRead b lives valids earliest latest lengths before after → PairsSettled (view b)
-PairFound lives valids earliest latest lengths before after (At i k) = AppliesAt lives valids earliest latest lengths before after i k
-
--- when a job ends that starts at its earliest
-pub record EarliestEnd (earliest lengths : List ℤ) (i : ℕ) (end : ℤ) : Type 0 where
-  pub is : end ≡ get_or earliest i (pos 0) +ℤ get_or lengths i (pos 0)
-  pub moderate : Moderate end
+PairFound lives valids earliest latest lengths before after (std.Some p) =
+    AppliesAt lives valids earliest latest lengths before after p.first p.second
+    × ((b : Board) → BoardRead b lives valids earliest latest lengths before after
+    → PairRead (view b) p.first p.second p.valid p.after p.before p.onward p.late)
 
 -- what is said where nothing is found, in other words
 pub searched_with : (v : View) (P Q : Type 0) → (P → Q) → (o : Option Fact) → Searched v P o → Searched v Q o
@@ -81,14 +79,15 @@ module _ {b : Board} {lives valids : ℕ} {earliest latest lengths : List ℤ} {
         done = λ x l e. absurd (refuted e ((live_bit x).show l));
       }
 
-  -- the live jobs that are left no more are settled
-  pub done_settled : {left done : ℕ} → JobsLeft (view b) left → done ≡ difference job_limit lives left
-      → (s : Side) (x : ℕ) → bit done x ≡ true → SideSettled (view b) s x
-  done_settled {left} {done} jobs e s x member =
-      let fits : left < 2 ^ job_limit = omega (arith, width, part_at_most left lives λ y m. (live_bit y).show (jobs.member y m)) in
-      let visited = retested (ap (λ w. bit w x) e ∙ bit_difference job_limit lives left x width fits) (live_bit x and negated (holds (bit left x))) in
-      let (live, out) = visited.yes member in
-      (jobs.done x live (is_false (bit left x) out)).settled s
+-- one more job is settled
+pub settled_with : (v : View) (done i : ℕ) → ((k : ℕ) → bit done k ≡ true → JobSettled v k) → JobSettled v i
+    → (k : ℕ) → bit (with done i) k ≡ true → JobSettled v k
+settled_with v done i settled now k e = go (bit done k) refl (ℕ_discrete i k)
+  where
+    go : (t : Bool) → bit done k ≡ t → Dec (i ≡ k) → JobSettled v k
+    go true d _ = settled k d
+    go false d (yes same) = subst (JobSettled v) same now
+    go false d (no ne) = absurd (refuted (bit_with done i k ∙ rw (d, ne_eqb i k ne)) e)
 
 -- what the row of job i reads
 pub row_read : {b : Board} {lives valids : ℕ} {earliest latest lengths : List ℤ} {before after : List ℕ}

@@ -2,82 +2,56 @@
 #![tactic(auto)]
 
 ghost use Rattle.std.specs.Prelude.{◌≡◌, ◌<◌, ◌≤◌};
-ghost use Rattle.paper_board.specs.declared.Board as boards;
-ghost use Rattle.paper_board.specs.Paper.Limits.{job_limit};
+ghost use Rattle.paper_board.specs.Paper.Limits.{job_limit, Within};
 ghost use Rattle.paper_rules.specs.Update.Updates as updates;
 ghost use Rattle.paper_rules.specs.Update.Strike as struck;
-ghost use Rattle.paper_rules.specs.Update.ArraysWithin.{filled, Alters};
+ghost use Rattle.paper_rules.specs.Update.Possibly.{possibly};
 
 use paper_board::Board;
 
 // What becomes of job k where a set is struck out: it loses all it has where it is of the set, else its arcs to the set's jobs.
-fn strike_at(
-    lengths: &mut [i32; Board::JOBS],
-    earliest: &mut [i32; Board::JOBS],
-    latest: &mut [i32; Board::JOBS],
-    marks: &mut [u8; Board::JOBS],
-    after: &mut [u64; Board::JOBS],
-    before: &mut [u64; Board::JOBS],
-    set: u64,
-    k: usize,
-)
+fn strike_at(board: &mut Board, set: u64, k: usize)
     requires { k < job_limit }
-    ensures { (b : boards.Board) → filled b lengths.new earliest.new latest.new marks.new after.new before.new ≡ struck.strike_at (filled b lengths.old earliest.old latest.old marks.old after.old before.old) set k }
+    ensures { board.new ≡ struck.strike_at board.old set k }
 {
     if ground_sets::has(set, k) {
-        lengths[k] = 0;
-        earliest[k] = 0;
-        latest[k] = 0;
-        marks[k] = Board::INVALID;
-        after[k] = 0;
-        before[k] = 0;
+        board.lengths[k] = 0;
+        board.earliest[k] = 0;
+        board.latest[k] = 0;
+        board.marks[k] = Board::INVALID;
+        board.after[k] = 0;
+        board.before[k] = 0;
         return;
     }
-    after[k] = ground_sets::difference(after[k], set);
-    before[k] = ground_sets::difference(before[k], set);
+    board.after[k] = ground_sets::difference(board.after[k], set);
+    board.before[k] = ground_sets::difference(board.before[k], set);
 }
 
-// "An invalid job holds length 0, E 0, D 0 and no arcs": all jobs of a set become invalid at once.
-pub fn strike(
-    jobs: usize,
-    lengths: &mut [i32; Board::JOBS],
-    earliest: &mut [i32; Board::JOBS],
-    latest: &mut [i32; Board::JOBS],
-    marks: &mut [u8; Board::JOBS],
-    after: &mut [u64; Board::JOBS],
-    before: &mut [u64; Board::JOBS],
-    set: u64,
-)
-    requires { jobs ≤ job_limit }
-    ensures { (b : boards.Board) → b.jobs ≡ jobs → filled b lengths.new earliest.new latest.new marks.new after.new before.new ≡ struck.strike (filled b lengths.old earliest.old latest.old marks.old after.old before.old) set }
+// "An invalid job holds length 0, E 0, D 0 and no arcs": all jobs of a set become invalid at once. By number, since a step alters a place of six
+// arrays.
+#[tactic(auto, using(paper_rules::specs::Update::Strike::striking))]
+pub fn strike(board: &mut Board, set: u64)
+    requires { board.old.jobs ≤ job_limit }
+    ensures { board.new ≡ struck.strike board.old set }
 {
-    for k in 0..jobs {
-        strike_at(lengths, earliest, latest, marks, after, before, set, k);
+    for k in 0..board.jobs {
+        strike_at(board, set, k);
     }
 }
 
 // "makes an undecided job invalid and a valid one a contradiction"
-pub fn exclude(
-    jobs: usize,
-    lengths: &mut [i32; Board::JOBS],
-    earliest: &mut [i32; Board::JOBS],
-    latest: &mut [i32; Board::JOBS],
-    marks: &mut [u8; Board::JOBS],
-    after: &mut [u64; Board::JOBS],
-    before: &mut [u64; Board::JOBS],
-    job: usize,
-) -> bool
-    requires { (jobs ≤ job_limit) × (job < jobs) }
-    ensures { Alters jobs (λ c. updates.exclude c job) lengths.old earliest.old latest.old marks.old after.old before.old result lengths.new earliest.new latest.new marks.new after.new before.new }
+#[tactic(auto, using(paper_rules::specs::Update::Excluded::excluding))]
+pub fn exclude(board: &mut Board, job: usize) -> Option<()>
+    requires { (board.old.jobs ≤ job_limit) × (job < board.old.jobs) }
+    ensures { Within board.old → updates.exclude board.old job ≡ possibly result board.new }
 {
-    let mark = marks[job];
+    let mark = board.marks[job];
     if mark == Board::VALID {
-        return false;
+        return None;
     }
     if mark == Board::INVALID {
-        return true;
+        return Some(());
     }
-    let set = ground_sets::with(0, job);
-    strike(jobs, lengths, earliest, latest, marks, after, before, set);
-    true
+    strike(board, ground_sets::with(0, job));
+    Some(())
 }

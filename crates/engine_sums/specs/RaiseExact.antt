@@ -1,6 +1,7 @@
 -- The energy bound is exact: on any board within its limits, closed or not, the sums over the numbers that the code reads are
 -- those of R4 and R5, so their greatest is the greatest of R4's sums and stands for the least of R5's differences.
 use Rattle.std.specs.Prelude.{◌≡◌, refl, Bool, true, List, ℕ, ℤ, neg_ℤ, ◌≤ℤ◌, ◌<ℤ◌}
+use Rattle.std.specs.Prelude as std
 use Rattle.std.proofs.Math.Option.{Option, none, some}
 use Rattle.std.proofs.Common.{arith}
 use Rattle.ground_sets.specs.Bit.{bit}
@@ -14,8 +15,6 @@ use Rattle.paper_rules.specs.Paper.Rules.{D, energy}
 use Rattle.paper_rules.specs.Paper.Energy.{SumR4, DifferenceR5}
 use Rattle.paper_board.specs.BoardTests.Decides.{Decides}
 use Rattle.paper_board.specs.BoardTests.Ranges.{ranges}
-use Rattle.engine_sums.specs.declared.EnergyBound.{EnergyBound}
-use Rattle.engine_sums.specs.declared.EnergyBound.TheVariants.{Unbounded, At}
 use Rattle.paper_rules.specs.Inference.SumBeyond.{SumBeyond}
 use Rattle.engine_sums.specs.Sums.{bound_at, length_at, Times, Lengths, Sum, Exceeds, bound_of}
 
@@ -91,9 +90,9 @@ FallsBelow P high none = (z : ℤ) → P z → high ≤ℤ z
 FallsBelow P high (some z) = (P z × ((y : ℤ) → P y → z ≤ℤ y)) × (z <ℤ high)
 
 -- the time that an answer gives
-abbrev pub time_of : EnergyBound → Option ℤ
-time_of Unbounded = none
-time_of (At t) = some t
+abbrev pub time_of : std.Option ℤ → Option ℤ
+time_of std.None = none
+time_of (std.Some t) = some t
 
 beyond_R4 : (v : View) (b : ℕ) (z : ℤ) → SumBeyond v early b z → SumR4 v b z
 beyond_R4 v b z p =
@@ -133,25 +132,25 @@ module _ (v : View) (a : ℕ) (z : ℤ) where
 -- "E of a live B is at least (least E in S) + (sum of lengths in S) for each non-empty set S of valid jobs with arcs to B":
 -- at side early the answer is the greatest of these sums where it is above the floor, and none exactly where no such sum is.
 pub raise_exact : (b : Board) → Within b → (j w : ℕ) → ((k : ℕ) → Decides (bit w k) (Valid (view b) k × Arc (view b) k j))
-    → (floor : ℤ) (r : EnergyBound) → Exceeds (Sum early b.earliest b.lengths w) floor (bound_of early r)
+    → (floor : ℤ) (r : std.Option ℤ) → Exceeds (Sum early b.earliest b.lengths w) floor (bound_of early r)
     → Exceeds (SumR4 (view b) j) floor (time_of r)
 raise_exact b h j w members floor r g = go r (exceeds_beyond b h early j w members floor (bound_of early r) g)
   where
-    go : (r : EnergyBound) → Exceeds (SumBeyond (view b) early j) floor (bound_of early r) → Exceeds (SumR4 (view b) j) floor (time_of r)
-    go Unbounded g = exceeds_same _ _ (beyond_R4 (view b) j) (R4_beyond (view b) j) floor none g
-    go (At t) g = exceeds_same _ _ (beyond_R4 (view b) j) (R4_beyond (view b) j) floor (some t) g
+    go : (r : std.Option ℤ) → Exceeds (SumBeyond (view b) early j) floor (bound_of early r) → Exceeds (SumR4 (view b) j) floor (time_of r)
+    go std.None g = exceeds_same _ _ (beyond_R4 (view b) j) (R4_beyond (view b) j) floor none g
+    go (std.Some t) g = exceeds_same _ _ (beyond_R4 (view b) j) (R4_beyond (view b) j) floor (some t) g
 
 -- "D of a live A is at most (greatest D in S) - (sum of lengths in S) for each non-empty set S of valid jobs that A has arcs
 -- to": at side late the answer is the least of these differences where it is below the floor, and none exactly where none is.
 pub lower_exact : (b : Board) → Within b → (j w : ℕ) → ((k : ℕ) → Decides (bit w k) (Valid (view b) k × Arc (view b) j k))
-    → (floor : ℤ) (r : EnergyBound) → Exceeds (Sum late b.latest b.lengths w) (neg_ℤ floor) (bound_of late r)
+    → (floor : ℤ) (r : std.Option ℤ) → Exceeds (Sum late b.latest b.lengths w) (neg_ℤ floor) (bound_of late r)
     → FallsBelow (DifferenceR5 (view b) j) floor (time_of r)
 lower_exact b h j w members floor r g = go r (exceeds_beyond b h late j w members (neg_ℤ floor) (bound_of late r) g)
   where
     turned : (y : ℤ) → DifferenceR5 (view b) j y → SumBeyond (view b) late j (neg_ℤ y)
     turned y p = R5_beyond (view b) j y p
 
-    go : (r : EnergyBound) → Exceeds (SumBeyond (view b) late j) (neg_ℤ floor) (bound_of late r) → FallsBelow (DifferenceR5 (view b) j) floor (time_of r)
-    go Unbounded g = λ z p. omega (whole, g (neg_ℤ z) (turned z p), minus z, minus floor)
-    go (At t) ((p, most), over) =
+    go : (r : std.Option ℤ) → Exceeds (SumBeyond (view b) late j) (neg_ℤ floor) (bound_of late r) → FallsBelow (DifferenceR5 (view b) j) floor (time_of r)
+    go std.None g = λ z p. omega (whole, g (neg_ℤ z) (turned z p), minus z, minus floor)
+    go (std.Some t) ((p, most), over) =
         ((beyond_R5 (view b) j t p, λ y q. omega (whole, most (neg_ℤ y) (turned y q), minus y, minus t)), omega (whole, over, minus t, minus floor))

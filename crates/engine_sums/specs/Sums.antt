@@ -1,15 +1,14 @@
 -- The sums that R4 and R5 compare a bound with, over the numbers that the code reads. R5 is R4 with the signs turned: a time
 -- D counts as the bound -D, so a greatest D is a least bound and a difference is a sum.
 use Rattle.std.specs.Prelude.{◌≡◌, Bool, true, cond, List, ◌≢◌, ℕ, ◌<◌, ℤ, pos, ◌+ℤ◌, get_or, ◌≤ℤ◌, ◌<ℤ◌}
+use Rattle.std.specs.Prelude as std
 use Rattle.std.proofs.Math.Option.{Option, none, some}
 use Rattle.std.specs.Int.Signed.{lt_z}
 use Rattle.ground_sets.specs.Bit.{bit, without}
 use Rattle.ground_arithmetic.specs.Sum.{total}
-use Rattle.paper_board.specs.Paper.View.{Side}
+use Rattle.paper_board.specs.Paper.View.{Side, early, late}
 use Rattle.paper_board.specs.Paper.Limits.{IsTime, job_limit, longest}
 use Rattle.paper_board.specs.Paper.Values.{turned}
-use Rattle.engine_sums.specs.declared.EnergyBound.{EnergyBound}
-use Rattle.engine_sums.specs.declared.EnergyBound.TheVariants.{Unbounded, At}
 
 -- the bound on side s that stands at place k of a board's times
 abbrev pub bound_at : Side → List ℤ → ℕ → ℤ
@@ -91,7 +90,12 @@ abbrev pub Pushes : Side → List ℤ → List ℤ → ℕ → ℕ → Option �
 Pushes s times lengths w j none = Unit
 Pushes s times lengths w j (some z) = Sum s times lengths w z × (bound_at s times j <ℤ z)
 
--- the bound that an answer stands for
-abbrev pub bound_of : Side → EnergyBound → Option ℤ
-bound_of s Unbounded = none
-bound_of s (At t) = some (turned s t)
+-- the bound that an answer stands for: a time, or none
+abbrev pub bound_of : Side → std.Option ℤ → Option ℤ
+bound_of s std.None = none
+bound_of s (std.Some t) = some (turned s t)
+
+-- the times that stand on side s
+abbrev pub times_on : Side → List ℤ → List ℤ → List ℤ
+times_on early earliest latest = earliest
+times_on late earliest latest = latest

@@ -1,22 +1,15 @@
-// The sums that R4 and R5 compare a bound with, for one job alone; and a sum as a bound on either side.
+// The sums that R4 and R5 compare a bound with: a sum as a bound on either side, and as a time.
 #![tactic(auto)]
 
-ghost use Rattle.std.specs.Prelude.{◌≡◌, ◌<◌};
+ghost use Rattle.std.specs.Prelude.{◌≡◌};
 ghost use Rattle.std.specs.Int.Signed.{lt_z};
 ghost use Rattle.ground_arithmetic.specs.Time.{Moderate};
-ghost use Rattle.paper_board.specs.Paper.Limits.{job_limit};
 ghost use Rattle.paper_board.specs.Paper.Values as paper;
 ghost use Rattle.engine_sums.specs.Sums as sums;
 
-use paper_board::Board;
 use paper_board::facts::Side;
 
-// The bound that some jobs leave to another, where it is above what that job has already.
-#[derive(Clone, Copy)]
-pub enum EnergyBound {
-    Unbounded,
-    At(i32),
-}
+pub mod bounds;
 
 // A time as a bound that closing can only raise, and back.
 pub fn turned(side: Side, time: i32) -> i32
@@ -39,44 +32,13 @@ pub fn is_lower(side: Side, time: i32, other: i32) -> bool
     }
 }
 
-// The bound that stands at place k.
-pub fn bound(side: Side, times: &[i32; Board::JOBS], k: usize) -> i32
-    requires times { sums.Times times.now }
-    requires k_lt_job_limit { k < job_limit }
-    ensures { result ≡ sums.bound_at (paper.side_of side) times.now k }
-{
-    turned(side, times[k])
-}
-
-// The bound that the job at place k leaves to the jobs beyond it.
-pub fn end(side: Side, times: &[i32; Board::JOBS], lengths: &[i32; Board::JOBS], k: usize) -> i32
-    requires { sums.Times times.now × sums.Lengths lengths.now × (k < job_limit) }
-    ensures { result ≡ sums.end_at (paper.side_of side) times.now lengths.now k }
-{
-    ground_arithmetic::sum(bound(side, times, k), lengths[k])
-}
-
 // A bound as a time, where it is above the floor.
-pub fn above(side: Side, floor: i32, best: i32) -> EnergyBound
+pub fn above(side: Side, floor: i32, best: i32) -> Option<i32>
     requires { Moderate best }
     ensures { sums.bound_of (paper.side_of side) result ≡ sums.over floor best }
 {
     if floor < best {
-        return EnergyBound::At(turned(side, best));
+        return Some(turned(side, best));
     }
-    EnergyBound::Unbounded
-}
-
-// The bound that the job at place k alone leaves, where it is above the floor, a time.
-pub fn single_bound(
-    side: Side,
-    times: &[i32; Board::JOBS],
-    lengths: &[i32; Board::JOBS],
-    k: usize,
-    floor: i32,
-) -> EnergyBound
-    requires { sums.Times times.now × sums.Lengths lengths.now × (k < job_limit) × Moderate floor }
-    ensures { sums.bound_of (paper.side_of side) result ≡ sums.over (paper.turned (paper.side_of side) floor) (sums.end_at (paper.side_of side) times.now lengths.now k) }
-{
-    above(side, turned(side, floor), end(side, times, lengths, k))
+    None
 }

@@ -8,6 +8,7 @@ ghost use Rattle.engine_transposition.specs.Transpose.{Mask, Lower, Upper, Excha
 use paper_board::Board;
 
 // The masked bits of two words: those of the first in their places, those of the second shifted up between them.
+#[tactic(auto, using(crate::specs::Transpose::bit_lower))]
 fn lower(low: u64, high: u64, shift: usize, mask: u64) -> u64
     requires { Mask shift mask }
     ensures { Lower shift mask low high result }
@@ -16,6 +17,7 @@ fn lower(low: u64, high: u64, shift: usize, mask: u64) -> u64
 }
 
 // The other bits of the two: those of the second in their places, those of the first shifted down between them.
+#[tactic(auto, using(crate::specs::Transpose::bit_upper))]
 fn upper(low: u64, high: u64, shift: usize, mask: u64) -> u64
     requires { shift < width }
     ensures { Upper shift mask low high result }
@@ -23,7 +25,8 @@ fn upper(low: u64, high: u64, shift: usize, mask: u64) -> u64
     high ^ (mask & (high ^ (low >> shift)))
 }
 
-// One round: words i and i + 32 become words 2 i and 2 i + 1, which hold the masked bits of both and the other bits of both.
+// One round: words i and i + 32 become words 2 i and 2 i + 1, which hold the masked bits of both and the other bits of both. The four places
+// are plainer by their numbers than by iterators over halves and pairs.
 fn exchange(from: &[u64; Board::JOBS], shift: usize, mask: u64) -> [u64; Board::JOBS]
     requires { Mask shift mask }
     ensures { Exchanged shift mask from.now result }

@@ -23,11 +23,11 @@ pub fn gap(e: i32, d: i32) -> i32
 pub fn greater(a: i32, b: i32) -> i32
     ensures { result ≡ time.greater a b }
 {
-    if a < b { b } else { a }
+    a.max(b)
 }
 
 pub fn lesser(a: i32, b: i32) -> i32
     ensures { result ≡ time.lesser a b }
 {
-    if a < b { a } else { b }
+    a.min(b)
 }

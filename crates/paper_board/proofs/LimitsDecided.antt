@@ -12,7 +12,7 @@ use Rattle.paper_board.specs.declared.Board.{Board}
 use Rattle.paper_board.specs.declared.Books.{Books}
 use Rattle.paper_board.specs.Paper.View.{Row, view, row_of, arc_of, arc_into_of, Live, Arc}
 use Rattle.paper_board.specs.Paper.Limits.{job_limit, tally_limit, IsTime, IsLength, Fits, zero_row, RowLimits, Shape, Within, BooksWithin}
-use Rattle.paper_board.specs.Paper.Tests.{live, between, is_time, is_length}
+use Rattle.paper_board.specs.Paper.Tests.{between, is_time, is_length}
 use Rattle.paper_board.specs.BoardTests.WithinLimits.{is_zero, fits, is_zero_row, full, shape, holds_job, holds_nothing, joinable, agrees, within_limits, books_limits}
 use Rattle.paper_board.specs.BoardTests.Decides.{Decides, restated, ◌and◌, implied, negated, every, holds, le, lt, eq, same, live_is, at_most}
 

@@ -90,7 +90,7 @@ pub enum Refusal {
 }
 
 impl Refusal {
-    // The refusal's number in the paper's table.
+    // The refusal's number in the paper's table; a line each, as there, and not the order of the variants.
     pub fn number(self) -> u32
         ensures { result ≡ number_of self }
     {

@@ -1,6 +1,6 @@
 -- What the demands alone say of one day at a dock, and of a few smaller sequences. Each field of the demands is used here by name, at the
 -- limit of its premises, so that none can be dropped, emptied or given a premise that can't be met.
-use Rattle.std.specs.Prelude.{◌≡◌, refl, ◌≢◌, ◌⊎◌, true, ℕ, ◌≤◌, ◌<◌, ℤ, pos, ◌+ℤ◌, ◌≤ℤ◌, ◌<ℤ◌}
+use Rattle.std.specs.Prelude.{◌≡◌, refl, ◌≢◌, ◌⊎◌, true, ℕ, ◌≤◌, ◌<◌, ℤ, pos, ◌+ℤ◌, ◌≤ℤ◌, ◌<ℤ◌, Some, Ok}
 use Rattle.std.proofs.Common.{sym, ap, ◌∙◌, inr, arith}
 use Rattle.std.proofs.Math.Path.{subst, subst⁻¹}
 use mathlib.Core.List.{List, [], ◌∷◌, ◌++◌, Memᴰ}
@@ -19,7 +19,6 @@ use Rattle.paper_rules.specs.Paper.Schedules.{Placing, Placed, Schedule}
 use Rattle.paper_board.specs.Paper.View.{View, Arc, view, row_of}
 use Rattle.paper_rules.specs.Order.Empty.{within_empty_books}
 use Rattle.paper_rules.specs.Update.StoreWithin.{within_tally}
-use Rattle.paper_entries.specs.declared.Answer.TheVariants as Answers
 use Rattle.paper_entries.specs.AnsweredImpossible.{answered_impossible}
 use Rattle.paper_entries.specs.Paper.Replies.{shows_row, row_reply_of, shows_pair, pair_reply_of}
 use Rattle.paper_entries.specs.Paper.Enter.{counted, enter}
@@ -119,8 +118,8 @@ module _ (demands : Demands) where
   mark_tally = after_day.tally (marked 3 1) day_facts.validated ∙ day_facts.tally
 
   -- a fifth job has number 4
-  pub fifth : (enter day_board (job 1 0 100)).answer ≡ Answers.Added 4
-  fifth = after_day.answer (job 1 0 100) day_facts.added ∙ ap Answers.Added day_facts.jobs
+  pub fifth : (enter day_board (job 1 0 100)).answer ≡ Ok (Some 4)
+  fifth = after_day.answer (job 1 0 100) day_facts.added ∙ ap (λ k. Ok (Some k)) day_facts.jobs
 
   -- the cut contradicts the day, and so is refused
   pub cut_contradicts : Contradiction (with_entry day_entries (cut_to 2 0 34))

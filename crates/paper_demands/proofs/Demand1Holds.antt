@@ -1,5 +1,5 @@
 -- Demand 1 holds of every call on every board handed in.
-use Rattle.std.specs.Prelude.{◌≡◌, refl, ◌≢◌, ◌⊎◌, ◌↔◌, Bool, true, false, cond, not, ◌&&◌, ℕ, eqb}
+use Rattle.std.specs.Prelude.{◌≡◌, refl, ◌≢◌, ◌⊎◌, ◌↔◌, Bool, true, false, cond, not, ◌&&◌, ℕ, eqb, Some, None, Ok, Err}
 use Rattle.std.proofs.Common.{sym, subst, ◌∙◌, inl, inr, ⊎_elim, arith, eqb-true, eq-eqb, ne_eqb}
 use mathlib.Core.List.{List, [], ◌∷◌, Memᴰ}
 use Rattle.std.proofs.Math.Option.{Option, none, some}
@@ -9,8 +9,7 @@ use Rattle.paper_board.specs.declared.Refusal.{Refusal}
 use Rattle.paper_board.specs.Paper.Refusals.{number_of}
 use Rattle.paper_closure.specs.Passes.{passes}
 use Rattle.paper_closure.proofs.PassesClosed.{passes_closed}
-use Rattle.paper_entries.specs.declared.Answer.{Answer}
-use Rattle.paper_entries.specs.declared.Answer.TheVariants as Answers
+use Rattle.paper_entries.specs.Paper.Answers.{Answer}
 use Rattle.paper_entries.specs.AnsweredImpossible.{lines, refusal_line}
 use Rattle.paper_entries.proofs.RefusedExactly.{refused_board}
 use Rattle.paper_entries.specs.Paper.Replies.{no_number, reply_of}
@@ -101,10 +100,10 @@ module _ (b : Board) (q : Request) where
 
 -- ---- the board after a refusal
 
-refused_as : (a : Answer) (r : ℕ) → reply_of a ≡ no_number r → (s : Refusal) × (a ≡ Answers.Refused s) × (number_of s ≡ r)
-refused_as (Answers.Added k) r q = clash (cc)
-refused_as Answers.Accepted r q = clash (cc)
-refused_as (Answers.Refused s) r q = (s, refl, cc)
+refused_as : (a : Answer) (r : ℕ) → reply_of a ≡ no_number r → (s : Refusal) × (a ≡ Err s) × (number_of s ≡ r)
+refused_as (Ok (Some k)) r q = clash (cc)
+refused_as (Ok None) r q = clash (cc)
+refused_as (Err s) r q = (s, refl, cc)
 
 -- the board after an entry refused with r
 left : (b : Board) (e : Entry) (r : ℕ) → refusal b (entry e) ≡ some r → (enter b e).board ≡ cond (eqb r 8) (counted b) b

@@ -1,5 +1,5 @@
 -- "Repeating an accepted arc, mark or cut is accepted"; an invalid job's "further arcs and cuts are accepted without effect".
-use Rattle.std.specs.Prelude.{◌≡◌, refl, Bool, true, false, List, ℤ}
+use Rattle.std.specs.Prelude.{◌≡◌, refl, Bool, true, false, List, ℤ, None, Ok}
 use Rattle.std.proofs.Math.Path.{subst⁻¹}
 use Rattle.std.proofs.Common.{⊎_elim, arith}
 use mathlib.Core.List.Memᴰ
@@ -15,7 +15,6 @@ use Rattle.paper_rules.specs.Order.OrderLaws.{holds_up}
 use Rattle.paper_rules.specs.Order.LeastUnique.{least_unique, equal_boards}
 use Rattle.paper_closure.specs.Passes.{passes}
 use Rattle.paper_closure.proofs.PassesClosed.{passes_within, passes_least}
-use Rattle.paper_entries.specs.declared.Answer.TheVariants as Answers
 use Rattle.paper_entries.specs.declared.Entered.{Entered}
 use Rattle.paper_entries.specs.Paper.Entry.{Statement, arc, cut, Entry, other, number, stated, with_entry}
 use Rattle.paper_entries.specs.Paper.Checks.{statement_checks, first_refusal}
@@ -29,7 +28,7 @@ use Rattle.paper_entries.proofs.EnterOutcome.{Step, step, reached_shown, enter_c
 
 -- accepted without effect
 abbrev pub without_effect : Board → Entered
-without_effect b = record { answer = Answers.Accepted; board = b }
+without_effect b = record { answer = Ok None; board = b }
 
 -- a statement is accepted without effect where the board shows already what it states
 pub unaltered : (b : Board) (s : Statement) → passes b ≡ true → first_refusal (statement_checks b.jobs s) ≡ none
@@ -59,18 +58,18 @@ unaltered b s p g holds = ends (enter b (other s)) (enter_checked b (other s) p)
     ends _ (impossible h k) = absurd (k b least.closed)
     ends _ (accepted h c l t) =
         let same = equal_boards c b l.closed.within (passes_within b p) (record { alike = (least_unique es c b (closed_least es c l) least).alike; books = t }) in
-        λ i. record { answer = Answers.Accepted; board = same i }
+        λ i. record { answer = Ok None; board = same i }
 
 -- ---- repeated entries
 
 -- an accepted statement met no refusal, and its board shows it
-shown_after : (b : Board) (s : Statement) (x : Entered) → Step (shown (view b)) b (other s) x → x.answer ≡ Answers.Accepted
+shown_after : (b : Board) (s : Statement) (x : Entered) → Step (shown (view b)) b (other s) x → x.answer ≡ Ok None
     → (first_refusal (statement_checks b.jobs s) ≡ none) × HoldAll (stated s) (view x.board)
 shown_after b s _ (by_table r g) q = clash (cc)
 shown_after b s _ (impossible g i) q = clash (cc)
 shown_after b s _ (accepted g c r t) q = (g, (with_split (shown (view b)) (view c) (other s) r.shows.at_least).1)
 
-accepted_passes : (b : Board) (e : Entry) → (enter b e).answer ≡ Answers.Accepted → passes b ≡ true
+accepted_passes : (b : Board) (e : Entry) → (enter b e).answer ≡ Ok None → passes b ≡ true
 accepted_passes b e q = go (passes b) refl
   where
     go : (t : Bool) → passes b ≡ t → passes b ≡ true
@@ -78,7 +77,7 @@ accepted_passes b e q = go (passes b) refl
     go false p = clash (cc (enter_refused b e p))
 
 -- "Repeating an accepted arc, mark or cut is accepted", at once or after any other calls, and has no effect
-pub repeated : (b : Board) (s : Statement) (cs : List Call) → (enter b (other s)).answer ≡ Answers.Accepted
+pub repeated : (b : Board) (s : Statement) (cs : List Call) → (enter b (other s)).answer ≡ Ok None
     → enter (after (enter b (other s)).board cs) (other s) ≡ without_effect (after (enter b (other s)).board cs)
 repeated b s cs q =
     let p = accepted_passes b (other s) q in

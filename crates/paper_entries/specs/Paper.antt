@@ -3,6 +3,7 @@ pub mod Entry
 pub mod EntryOf
 pub mod Checks
 pub mod Enter
+pub mod Answers
 pub mod Looking
 pub mod Replies
 pub mod Sequence

@@ -70,13 +70,8 @@ impl Entry {
     }
 }
 
-// The answer to an entry: the number of the job added, acceptance, or a refusal.
-#[derive(Clone, Copy)]
-pub enum Answer {
-    Added(usize),
-    Accepted,
-    Refused(Refusal),
-}
+// The answer to an entry that is accepted has the number of the job added, where one was.
+pub type Answer = Result<Option<usize>, Refusal>;
 
 // The answer and the board after the entry.
 #[derive(Clone, Copy)]
@@ -85,22 +80,23 @@ pub struct Entered {
     pub board: Board,
 }
 
-// A job's row with its sets as words, bit k for job k; or a refusal.
+// What a job's row shows, with its sets as words, bit k for job k.
 #[derive(Clone, Copy)]
-pub enum RowAnswer {
-    Row {
-        mark: u8,
-        earliest: i32,
-        latest: i32,
-        before: u64,
-        after: u64,
-    },
-    Refused(Refusal),
+pub struct ShownRow {
+    pub mark: u8,
+    pub earliest: i32,
+    pub latest: i32,
+    pub before: u64,
+    pub after: u64,
 }
 
-// The arcs between two jobs (0 none, 1 first to second, 2 second to first, 3 both) and the gap; or a refusal.
+pub type RowAnswer = Result<ShownRow, Refusal>;
+
+// The arcs between two jobs (0 none, 1 first to second, 2 second to first, 3 both: the paper's own numbers) and the gap.
 #[derive(Clone, Copy)]
-pub enum PairAnswer {
-    Pair { arcs: u8, gap: i32 },
-    Refused(Refusal),
+pub struct ShownPair {
+    pub arcs: u8,
+    pub gap: i32,
 }
+
+pub type PairAnswer = Result<ShownPair, Refusal>;

@@ -1,6 +1,6 @@
 -- The theorems on the planner: its answer is how its tries end, or spent where they take more than the budget (`plan_ending`); over the
 -- least closed board of entries, these find one of their schedules (`found_schedule`), or there is none (`none_scheduled`).
-use Rattle.std.specs.Prelude.{◌≡◌, refl, ◌↔◌, Bool, true, false, cond, List, ℕ, ◌<◌, ◌≤◌, leb, ℤ, pos}
+use Rattle.std.specs.Prelude.{◌≡◌, refl, ◌↔◌, Bool, true, false, cond, List, ℕ, ◌<◌, ◌≤◌, leb, ℤ, pos, Ok}
 use Rattle.std.proofs.Common.{sym, ap, ◌∙◌, arith, leb-false, le-leb}
 use Rattle.std.proofs.lemmas.Bool.{lt-leb}
 use Rattle.ground_arithmetic.specs.Bools.{clash}
@@ -18,7 +18,7 @@ use Rattle.paper_closure.specs.Passes.{passes}
 use Rattle.paper_closure.proofs.PassesClosed.{passes_within}
 use Rattle.paper_entries.specs.Paper.Entry.{number}
 use Rattle.paper_entries.specs.Paper.Checks.{budget_limit}
-use Rattle.paper_plans.specs.declared.PlanAnswer.TheVariants as Answers
+use Rattle.paper_plans.specs.declared.TriesEnd.TheVariants as Ends
 use Rattle.paper_plans.specs.Paper.Lists.{among}
 use Rattle.paper_plans.specs.Paper.Tries.{Ending, found, none, plan_of, tries}
 use Rattle.paper_plans.specs.Paper.Planner.{valid_jobs, unplanned, with_plan, planned_within, plan}
@@ -64,12 +64,12 @@ planned_within_replied : (v : View) → Limited v → (budget : ℕ) (o : Ending
     → plan_reply_of (planned_within v budget o) ≡ reply_within v budget o
 planned_within_replied v limits budget (found t ps) e = go (leb t budget)
   where
-    go : (b : Bool) → plan_reply_of (cond b (with_plan v (Answers.Found t) ps) (unplanned (Answers.Spent budget))) ≡ cond b (plan_found t (plan_of v ps)) (plan_spent budget)
-    go true = ap (plan_found t) (sym (plan_placing v (Answers.Found t) ps (small v limits t ps e)))
+    go : (b : Bool) → plan_reply_of (cond b (with_plan v (Ok (Ends.Found t)) ps) (unplanned (Ok (Ends.Spent budget)))) ≡ cond b (plan_found t (plan_of v ps)) (plan_spent budget)
+    go true = ap (plan_found t) (sym (plan_placing v (Ok (Ends.Found t)) ps (small v limits t ps e)))
     go false = refl
 planned_within_replied v limits budget (none t) e = go (leb t budget)
   where
-    go : (b : Bool) → plan_reply_of (cond b (unplanned (Answers.None t)) (unplanned (Answers.Spent budget))) ≡ cond b (plan_none t) (plan_spent budget)
+    go : (b : Bool) → plan_reply_of (cond b (unplanned (Ok (Ends.None t))) (unplanned (Ok (Ends.Spent budget)))) ≡ cond b (plan_none t) (plan_spent budget)
     go true = refl
     go false = refl
 

@@ -1,6 +1,6 @@
 -- What the planner tries and hands back: the valid jobs, each once, and a plan, a word with a list of starts, that reads as the
 -- placing of the jobs placed.
-use Rattle.std.specs.Prelude.{◌≡◌, true, ◌&&◌, ℕ, ◌+◌, ◌<◌, ◌≤◌, eqb, ltb, ℤ, replicate}
+use Rattle.std.specs.Prelude.{◌≡◌, true, ◌&&◌, ℕ, ◌+◌, ◌<◌, ◌≤◌, eqb, ltb, ℤ, replicate, Ok}
 use Rattle.std.proofs.Math.Path.{sym}
 use Rattle.std.proofs.Common.{◌∙◌, arith, get_or-set_same, lt-ltb, le-leb}
 use Rattle.std.proofs.Math.Bool.{or_comm}
@@ -24,8 +24,8 @@ use Rattle.paper_closure.specs.Passes.{passes}
 use Rattle.paper_entries.specs.Paper.Entry.{number}
 use Rattle.paper_entries.specs.Paper.Checks.{budget_limit, budget_check, first_refusal}
 use Rattle.paper_entries.specs.CheckLines.{no_line, passes_on, passed}
-use Rattle.paper_plans.specs.declared.PlanAnswer.{PlanAnswer}
-use Rattle.paper_plans.specs.declared.PlanAnswer.TheVariants as Answers
+use Rattle.paper_plans.specs.declared.TriesEnd.TheVariants as Ends
+use Rattle.paper_plans.specs.Paper.Answers.{PlanAnswer}
 use Rattle.paper_plans.specs.Paper.Lists.{range, among}
 use Rattle.paper_plans.specs.Paper.Tries
 use Rattle.paper_plans.specs.Paper.Tries.{Ending, found, add, start_after, start_in, plan_of, tries}
@@ -86,13 +86,13 @@ module _ (v : View) where
 
 -- the answer with a budget that is enough, and with one that is not
 module _ (v : View) (budget t : ℕ) where
-  pub found_in_budget : (ps : List ℕ) → t ≤ budget → planned_within v budget (found t ps) ≡ with_plan v (Answers.Found t) ps
+  pub found_in_budget : (ps : List ℕ) → t ≤ budget → planned_within v budget (found t ps) ≡ with_plan v (Ok (Ends.Found t)) ps
   found_in_budget ps l = rw (le-leb t budget l)
 
-  pub none_in_budget : t ≤ budget → planned_within v budget (Tries.none t) ≡ unplanned (Answers.None t)
+  pub none_in_budget : t ≤ budget → planned_within v budget (Tries.none t) ≡ unplanned (Ok (Ends.None t))
   none_in_budget l = rw (le-leb t budget l)
 
-pub beyond_budget : (v : View) (budget : ℕ) (o : Ending) → planned_within v budget (add (budget + 1) o) ≡ unplanned (Answers.Spent budget)
+pub beyond_budget : (v : View) (budget : ℕ) (o : Ending) → planned_within v budget (add (budget + 1) o) ≡ unplanned (Ok (Ends.Spent budget))
 unfolding add
 beyond_budget v budget (found u ps) = rw (lt-leb (budget + 1 + u) budget (omega arith))
 beyond_budget v budget (Tries.none u) = rw (lt-leb (budget + 1 + u) budget (omega arith))

@@ -9,7 +9,7 @@ pub mod RaisedRows
 pub mod Updated
 pub mod Derives
 pub mod Appended
-pub mod ArraysWithin
+pub mod Possibly
 pub mod PartlyChanged
 pub mod Strike
 pub mod StrikeLaws

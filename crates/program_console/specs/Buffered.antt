@@ -1,5 +1,5 @@
 -- What the loop over the pieces of a text keeps: the piece in the buffer is the last of those given so far, and those before it are written.
-use Rattle.std.specs.Prelude.{◌≡◌, List, [], ◌∷◌, ◌++◌, ℕ, length, take, Option}
+use Rattle.std.specs.Prelude.{◌≡◌, List, [], ◌∷◌, ◌++◌, ℕ, length, Option}
 use Rattle.std.specs.Io.KnownBytes.{Appends}
 use Rattle.std.proofs.Common.{arith, ap, ◌∙◌, sym, append_assoc, subst}
 use Rattle.std.proofs.Math.Path.{subst⁻¹}
@@ -20,7 +20,7 @@ pub record Buffered (text w : List ℕ) (b : Board) (t : List ℕ) (old new : Op
   pub written : Appends old new (joined before)
 
 pub first_piece : {text out : List ℕ} {piece : Piece} (old : Option (List ℕ)) → Answers (serve_text text) text out piece
-    → Buffered text (take piece.written out) piece.board (rest text piece.read) old old
+    → Buffered text out piece.board (rest text piece.read) old old
 first_piece old h = record { before = []; given = rw rest_drop (first h); written = Appends-nil old }
 
 joined_more : (ws : List (List ℕ)) (w : List ℕ) → joined (ws ++ (w ∷ [])) ≡ joined ws ++ w
@@ -35,7 +35,7 @@ joined_written {w = w} {old = old} {new = new} so now h =
 
 pub next_piece : {text w : List ℕ} {b : Board} {t out : List ℕ} {piece : Piece} {old new : Option (List ℕ)} (now : Option (List ℕ))
     → Buffered text w b t old new → Appends new now w → Answers (serve b (lines_of t)) t out piece
-    → Buffered text (take piece.written out) piece.board (rest t piece.read) old now
+    → Buffered text out piece.board (rest t piece.read) old now
 next_piece {w = w} now so wrote h =
     record { before = so.before ++ (w ∷ []); given = rw rest_drop (further so.given h); written = joined_written so now wrote }
 

@@ -2,7 +2,7 @@
 // the other is not. Each answer, and each row at the end, is written for the first board and then for the second.
 #![tactic(auto)]
 
-use crate::play::{Boards, play};
+use crate::play::{Boards, Manner, play};
 use call_dock::Dock;
 use paper_board::Board;
 use paper_entries::Entry;
@@ -50,7 +50,7 @@ fn main(rt: HostRuntime) -> io::Result<()> {
         Boards {
             first: empty,
             second: empty,
-            lent: true,
+            manner: Manner::InPlace,
         },
     )?;
     rows(&rt, boards)?;

@@ -5,37 +5,48 @@ use paper_board::Board;
 use paper_entries::{Entered, Entry};
 use std::io;
 
-// Two boards on which the same entries were made; `lent` says that the first is next altered in place.
+#[derive(Clone, Copy)]
+pub enum Manner {
+    ByValue,
+    InPlace,
+}
+
+impl Manner {
+    fn other(self) -> Self {
+        match self {
+            Manner::ByValue => Manner::InPlace,
+            Manner::InPlace => Manner::ByValue,
+        }
+    }
+
+    fn enter(self, board: Board, entry: Entry) -> Entered {
+        match self {
+            Manner::ByValue => Dock { board }.enter(entry),
+            Manner::InPlace => in_place::enter(board, entry),
+        }
+    }
+}
+
+// Two boards on which the same entries were made, and the manner in which the first is altered next.
 #[derive(Clone, Copy)]
 pub struct Boards {
     pub first: Board,
     pub second: Board,
-    pub lent: bool,
-}
-
-fn enter(board: Board, entry: Entry, lent: bool) -> Entered {
-    if lent {
-        in_place::enter(board, entry)
-    } else {
-        let dock = Dock { board };
-        dock.enter(entry)
-    }
+    pub manner: Manner,
 }
 
 // Both answers, the first board's first.
 pub fn play(rt: &impl Print, boards: Boards, entry: Entry) -> io::Result<Boards> {
-    let lent = boards.lent;
-    let one = enter(boards.first, entry, lent);
-    let other = enter(boards.second, entry, !lent);
-    let answer = one.answer;
-    test_writing::answer(rt, answer)?;
-    let answer = other.answer;
-    test_writing::answer(rt, answer)?;
+    let manner = boards.manner;
+    let one = manner.enter(boards.first, entry);
+    let other = manner.other().enter(boards.second, entry);
+    test_writing::answer(rt, one.answer)?;
+    test_writing::answer(rt, other.answer)?;
     let first = one.board;
     let second = other.board;
     Ok(Boards {
         first,
         second,
-        lent: !lent,
+        manner: manner.other(),
     })
 }

@@ -1,5 +1,7 @@
 -- Every board on the way passes check 0, so that the text never meets refusal 0: "the text program never meets it".
 use Rattle.std.specs.Prelude.{◌≡◌, Bool, ◌&&◌, List, [], ◌∷◌, ℕ, ◌<◌, ltb, leb, ℤ, length}
+use Rattle.std.specs.Prelude.{Some, None}
+use Rattle.std.specs.Prelude as std
 use Rattle.std.proofs.Math.Path.{refl}
 use Rattle.std.proofs.Common.{ap, arith, ltb-true}
 use Rattle.std.proofs.Math.Bool.{true, false}
@@ -31,18 +33,18 @@ use Rattle.paper_plans.specs.Paper.ReplyWithin.{taken}
 use Rattle.paper_plans.specs.Paper.Planner as planner
 use Rattle.paper_plans.specs.Paper.Planner.{plan}
 use Rattle.text_forms.specs.declared.Form.{Form}
-use Rattle.text_forms.specs.declared.Form.TheVariants.{Entry as Enters, Row, Pair, Plan, Tally, Unknown}
+use Rattle.text_forms.specs.declared.Form.TheVariants.{Entry as Enters, Row, Pair, Plan, Tally}
 use Rattle.text_forms.specs.Paper.Lines.{Line, ended, unended, lines_of}
 use Rattle.text_answers.specs.Paper.Text.{LineReply, to_entry, to_row, to_pair, to_plan, to_tally, carried_out, answered, serve, load_limit, serve_text}
 
-pub carried_passes : (b : Board) (f : Form) → passes b ≡ true → passes (carried_out b f).board ≡ true
+pub carried_passes : (b : Board) (f : std.Option Form) → passes b ≡ true → passes (carried_out b f).board ≡ true
 unfolding carried_out
-carried_passes b (Enters e) p = (call_later b (entry_of e) p).passes
-carried_passes b (Row j) p = p
-carried_passes b (Pair x y) p = p
-carried_passes b (Plan n) p = p
-carried_passes b Tally p = p
-carried_passes b Unknown p = p
+carried_passes b (Some (Enters e)) p = (call_later b (entry_of e) p).passes
+carried_passes b (Some (Row j)) p = p
+carried_passes b (Some (Pair x y)) p = p
+carried_passes b (Some (Plan n)) p = p
+carried_passes b (Some Tally) p = p
+carried_passes b None p = p
 
 -- the number of the refusal that an answer is, if it is one
 unfoldable pub refusal_in : LineReply → Option ℕ
@@ -119,14 +121,14 @@ module _ (b : Board) (p : passes b ≡ true) where
       go none g = rw (p, g, plan) (planned (view b) (number n) o (leb (taken o) (number n)) refl)
       go (some r) g = rw (p, g, plan) (some_number (number_of r) (refusal_positive _ r refl g))
 
-  carried_not_zero : (f : Form) → NotZero (carried_out b f).reply
+  carried_not_zero : (f : std.Option Form) → NotZero (carried_out b f).reply
   unfolding carried_out refusal_in
-  carried_not_zero (Enters e) = entry_not_zero (entry_of e)
-  carried_not_zero (Row j) = row_not_zero j
-  carried_not_zero (Pair x y) = pair_not_zero x y
-  carried_not_zero (Plan n) = plan_not_zero n
-  carried_not_zero Tally = λ q. clash (cc)
-  carried_not_zero Unknown = λ q. clash (cc)
+  carried_not_zero (Some (Enters e)) = entry_not_zero (entry_of e)
+  carried_not_zero (Some (Row j)) = row_not_zero j
+  carried_not_zero (Some (Pair x y)) = pair_not_zero x y
+  carried_not_zero (Some (Plan n)) = plan_not_zero n
+  carried_not_zero (Some Tally) = λ q. clash (cc)
+  carried_not_zero None = λ q. clash (cc)
 
   line_not_zero : (l : Line) → NotZero (answered b l).reply × (passes (answered b l).board ≡ true)
   unfolding refusal_in

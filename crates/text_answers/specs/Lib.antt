@@ -5,5 +5,3 @@ pub mod TextExamples
 pub mod CarriedPasses
 pub mod NeverRefused0
 pub mod TextCalls
--- what the code goes by: a line at a time
-pub mod Gives

@@ -1,23 +1,33 @@
--- A text written into a lent buffer: what stands before its end now is what stood before its start, and then the text.
-use Rattle.std.specs.Prelude.{ℕ, ◌+◌, ◌≤◌, ◌<◌, length, take, set, List, [], ◌∷◌, ◌++◌, ◌≡◌}
-use Rattle.std.proofs.Common.{add-one, arith, take-suc-set, append_assoc, append-nil, sym, ◌∙◌}
+-- What a page holds, and a text written on it: the page holds what it held before, and then the text.
+use Rattle.std.specs.Prelude.{ℕ, ◌+◌, ◌≤◌, length, List, [], ◌++◌, ◌≡◌, refl}
+use Rattle.std.proofs.Common.{arith, append_assoc, append-nil, sym, ◌∙◌}
 
--- x is written from `start` to `end`, which are at most so many bytes apart
-pub record Written (before : List ℕ) (start : ℕ) (after : List ℕ) (end : ℕ) (x : List ℕ) (most : ℕ) : Type 0 where
-  pub text : take end after ≡ take start before ++ x
-  pub room : end ≤ start + most
+-- the bytes written so far, and how many there may be
+pub record Held : Type 0 where
+  pub text : List ℕ
+  pub capacity : ℕ
 
-pub nothing_written : (o : List ℕ) (i : ℕ) → Written o i o i [] 0
-nothing_written o i = record { text = sym (append-nil (take i o)); room = omega arith }
+abbrev pub HasRoom : Held → ℕ → Type 0
+HasRoom page most = length page.text + most ≤ page.capacity
 
-pub byte_written : (o : List ℕ) (i b : ℕ) → i < length o → Written o i (set o i b) (i + 1) (b ∷ []) 1
-byte_written o i b h = record { text = rw add-one (take-suc-set o i b h); room = omega arith }
+-- x is written after what stood there, in at most so many bytes
+pub record Written (old new : Held) (x : List ℕ) (most : ℕ) : Type 0 where
+  pub text : new.text ≡ old.text ++ x
+  pub capacity : new.capacity ≡ old.capacity
+  pub growth : length new.text ≤ length old.text + most
 
-pub weaken_written : {o p : List ℕ} {i j : ℕ} {x : List ℕ} {m n : ℕ} → Written o i p j x m → m ≤ n → Written o i p j x n
-weaken_written w h = record { text = w.text; room = omega arith }
+pub nothing_written : (o : Held) → Written o o [] 0
+nothing_written o = record { text = sym (append-nil o.text); capacity = refl; growth = omega arith }
+
+pub weaken_written : {o p : Held} {x : List ℕ} {m n : ℕ} → Written o p x m → m ≤ n → Written o p x n
+weaken_written w h = record { text = w.text; capacity = w.capacity; growth = omega arith }
 
 -- one text after another
-pub append_written : {o p q : List ℕ} {i j k : ℕ} {x y : List ℕ} {m n l : ℕ}
-    → Written o i p j x m → Written p j q k y n → m + n ≤ l → Written o i q k (x ++ y) l
-append_written {o} {i = i} {x = x} {y = y} first second h =
-    record { text = second.text ∙ rw first.text (append_assoc (take i o) x y); room = omega arith }
+pub append_written : {o p q : Held} {x y : List ℕ} {m n l : ℕ}
+    → Written o p x m → Written p q y n → m + n ≤ l → Written o q (x ++ y) l
+append_written {o} {x = x} {y = y} first second h =
+    record {
+      text = second.text ∙ rw first.text (append_assoc o.text x y);
+      capacity = second.capacity ∙ first.capacity;
+      growth = omega arith;
+    }

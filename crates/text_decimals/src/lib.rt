@@ -1,16 +1,94 @@
-// A number written into a lent buffer: each function writes from `at` on, and says where the text ends.
+// A page of text in a lent buffer, and numbers written on it.
 #![tactic(auto)]
 
-ghost use Rattle.std.specs.Prelude.{[], ◌∷◌, ◌≡◌, ◌+◌, ◌≤◌, ◌<◌, nat_abs, length};
+ghost use Rattle.std.specs.Prelude.{[], ◌∷◌, ◌≡◌, ◌+◌, ◌-◌, ◌≤◌, ◌<◌, length};
 ghost use Rattle.text_decimals.specs.Decimal.{natural, decimal};
-ghost use Rattle.text_decimals.specs.Written.{Written};
+ghost use Rattle.text_decimals.specs.Written.{HasRoom, Written};
 
-pub fn put_byte(out: &mut [u8], at: usize, b: u8) -> usize
-    requires { at < length out.old }
-    ensures { Written out.old at out.new result (b ∷ []) 1 }
-{
-    out[at] = b;
-    at + 1
+use std::marker::Model;
+
+// What is written so far stands at the start of the buffer.
+#[derive(Drop)]
+pub struct Page<'a> {
+    buffer: &'a mut [u8],
+    written: usize,
+}
+
+impl<'a> Model for Page<'a> {
+    ghost use Rattle.std.specs.Prelude.{◌≤◌, length, take};
+    ghost use Rattle.text_decimals.specs.Written.{Held};
+
+    ghost Value = { Held };
+
+    ghost view = { λ p. record { text = take p.written p.buffer.now; capacity = length p.buffer.now } };
+
+    ghost invariant = { λ p. p.written ≤ length p.buffer.now };
+}
+
+impl<'a> Page<'a> {
+    pub fn new(buffer: &'a mut [u8]) -> Page<'a>
+        ensures text { result.text ≡ [] }
+        ensures capacity { result.capacity ≡ length buffer.old }
+    {
+        Page { buffer, written: 0 }
+    }
+
+    pub fn text(&self) -> &[u8]
+        ensures { result.now ≡ self.now.text }
+    {
+        &self.buffer[..self.written]
+    }
+
+    // How many bytes can still be written.
+    pub fn room(&self) -> usize
+        ensures { length self.now.text + result ≡ self.now.capacity }
+    {
+        self.buffer.len() - self.written
+    }
+
+    pub fn clear(&mut self)
+        ensures text { self.new.text ≡ [] }
+        ensures capacity { self.new.capacity ≡ self.old.capacity }
+    {
+        self.written = 0;
+    }
+
+    pub fn byte(&mut self, byte: u8)
+        requires { HasRoom self.old 1 }
+        ensures { Written self.old self.new (byte ∷ []) 1 }
+    {
+        self.buffer[self.written] = byte;
+        self.written += 1;
+    }
+
+    // In just as much room as the digits take.
+    fn digits(&mut self, n: u64)
+        requires { HasRoom self.old (length (natural n)) }
+        ensures { Written self.old self.new (natural n) (length (natural n)) }
+    {
+        if n < 10 {
+            return self.byte(digit(n));
+        }
+        self.digits(n / 10);
+        self.byte(digit(n % 10));
+    }
+
+    pub fn natural(&mut self, n: u64)
+        requires { HasRoom self.old 20 }
+        ensures { Written self.old self.new (natural n) 20 }
+    {
+        self.digits(n);
+    }
+
+    pub fn number(&mut self, z: i32)
+        requires { HasRoom self.old 11 }
+        ensures { Written self.old self.new (decimal z) 11 }
+    {
+        if z.is_negative() {
+            self.byte(b'-');
+        }
+        self.digits(z.unsigned_abs().into());
+    }
 }
 
 fn digit(d: u64) -> u8
@@ -18,44 +96,4 @@ fn digit(d: u64) -> u8
     ensures { result ≡ 48 + d }
 {
     b'0' + d as u8
-}
-
-// In just as much room as the digits take.
-fn put_digits(out: &mut [u8], at: usize, n: u64) -> usize
-    requires { at + length (natural n) ≤ length out.old }
-    ensures { Written out.old at out.new result (natural n) (length (natural n)) }
-{
-    if n < 10 {
-        return put_byte(out, at, digit(n));
-    }
-    let next = put_digits(out, at, n / 10);
-    put_byte(out, next, digit(n % 10))
-}
-
-pub fn put_natural(out: &mut [u8], at: usize, n: u64) -> usize
-    requires { at + 20 ≤ length out.old }
-    ensures { Written out.old at out.new result (natural n) 20 }
-{
-    put_digits(out, at, n)
-}
-
-// A number without its sign, also the least, whose magnitude is no i32.
-fn magnitude(z: i32) -> u64
-    ensures { result ≡ nat_abs z }
-{
-    if z < 0 {
-        return (-(z as i64)) as u64;
-    }
-    z as u64
-}
-
-pub fn put_number(out: &mut [u8], at: usize, z: i32) -> usize
-    requires { at + 11 ≤ length out.old }
-    ensures { Written out.old at out.new result (decimal z) 11 }
-{
-    if z < 0 {
-        let next = put_byte(out, at, b'-');
-        return put_digits(out, next, magnitude(z));
-    }
-    put_digits(out, at, magnitude(z))
 }

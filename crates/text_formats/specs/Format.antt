@@ -1,11 +1,9 @@
 -- A format is a text with a mark for each number: `#` for a number with its sign, `@` for a natural number. The forms of the text and
 -- its answers are formats filled in.
 use Prim.Native.Char.{code}
-use Rattle.std.specs.Prelude.{ℕ, ◌+◌, eqb, ℤ, pos, get_or, drop, cond, List, [], ◌∷◌, ◌++◌}
-use Rattle.std.proofs.Math.Option.{Option, none, some}
+use Rattle.std.specs.Prelude.{ℕ, ◌+◌, eqb, ℤ, pos, get_or, drop, cond, Option, Some, None, List, [], ◌∷◌, ◌++◌}
 use Rattle.text_decimals.specs.Decimal.{natural, decimal}
 use Rattle.text_numerals.specs.Numerals.{number_at}
-use Rattle.text_numerals.specs.declared.Numeral.TheVariants.{Number, Nothing}
 
 abbrev pub number_mark : ℕ
 number_mark = code "#"
@@ -23,18 +21,18 @@ filled (c ∷ f) ns zs =
     cond (eqb c natural_mark) asNatural (cond (eqb c number_mark) as_number (c ∷ asItself))
 
 abbrev pub with_first : ℤ → Option (List ℤ) → Option (List ℤ)
-with_first z none = none
-with_first z (some zs) = some (z ∷ zs)
+with_first z None = None
+with_first z (Some zs) = Some (z ∷ zs)
 
 -- the numbers in a text that is just the format with a number at each mark, if it is that
 unfoldable pub scan : List ℕ → List ℕ → Option (List ℤ)
-scan [] [] = some []
-scan [] (x ∷ t) = none
+scan [] [] = Some []
+scan [] (x ∷ t) = None
 scan (c ∷ f) t =
     cond
     (eqb c number_mark)
-    (elim (number_at t) [ Nothing ↦ none | Number k z ↦ with_first z (scan f (drop k t)) ])
-    (elim t [ [] ↦ none | x ∷ rest ↦ cond (eqb x c) (scan f rest) none ])
+    (elim (number_at t) [ None ↦ None | Some n ↦ with_first n.value (scan f (drop n.length t)) ])
+    (elim t [ [] ↦ None | x ∷ rest ↦ cond (eqb x c) (scan f rest) None ])
 
 -- how many marks of one kind a format has
 abbrev pub marks : ℕ → List ℕ → ℕ

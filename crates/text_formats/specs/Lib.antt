@@ -2,4 +2,3 @@
 pub mod Format
 -- what the proofs stand on: one byte of a format after the other
 pub mod Printed
-pub mod Numbers

@@ -2,9 +2,7 @@
 pub mod Paper
 pub mod OneText
 pub mod FormExamples
--- what the code goes by: the first line of a text, and a table of formats a line at a time
+-- what the code goes by: the first line of a text, and the formats one after the other
 pub mod LineLaws
-pub mod FormTable
-pub mod FormTableLaws
 pub mod Shapes
 pub mod FormRead

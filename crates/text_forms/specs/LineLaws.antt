@@ -1,8 +1,9 @@
 -- The first line of a text, and the lines after it.
-use Rattle.std.specs.Prelude.{◌≡◌, refl, Bool, not, List, [], ◌∷◌, ℕ, suc, ◌<◌, eqb, length, take, drop}
-use Rattle.std.proofs.Common.{ap, ◌∙◌, arith}
-use Rattle.std.proofs.Math.Bool.{true, false}
-use Rattle.text_numerals.specs.Prefix.{prefix}
+use Rattle.std.specs.Prelude.{◌≡◌, refl, Bool, true, false, not, cond, Option, Some, None, List, [], ◌∷◌, ℕ, suc, ◌<◌, eqb, ltb, length, take, drop, position}
+use Rattle.std.proofs.lemmas.Option.{cond_some, none-some}
+use Rattle.std.proofs.Common.{sym, ap, ◌∙◌, arith, ltb-true, ltb-false}
+use Rattle.text_numerals.specs.Prefix.{prefix, prefix_length, prefix_within}
+use Rattle.std.specs.List.{prefix_len}
 use Rattle.text_forms.specs.Paper.Lines.{line_feed, ended, unended, with_byte, lines_of}
 
 -- a byte of a line
@@ -12,6 +13,27 @@ in_line c = not (eqb c line_feed)
 -- how many bytes stand before the first line feed, or in the whole text where there is none
 abbrev pub line_length : List ℕ → ℕ
 line_length t = length (prefix in_line t)
+
+-- how many bytes stand before the first line feed, if there is one
+abbrev pub line_end : List ℕ → Option ℕ
+line_end t = position (λ c. eqb c line_feed) t
+
+module _ (t : List ℕ) where
+  line_counted : prefix_len in_line t ≡ line_length t
+  line_counted = prefix_length in_line t
+
+  pub ends_at : (n : ℕ) → line_end t ≡ Some n → (n ≡ line_length t) × (n < length t)
+  ends_at n e =
+      let (less, same) = cond_some (ltb (prefix_len in_line t) (length t)) _ n e in
+      let is : n ≡ line_length t = sym same ∙ line_counted in
+      (is, omega (arith, ltb-true _ _ less, line_counted, is))
+
+  pub no_end : line_end t ≡ None → line_length t ≡ length t
+  no_end e = go (ltb (prefix_len in_line t) (length t)) refl e
+    where
+      go : (b : Bool) → ltb (prefix_len in_line t) (length t) ≡ b → cond b (Some (prefix_len in_line t)) None ≡ None → line_length t ≡ length t
+      go true l e = absurd (none-some _ (sym e))
+      go false l e = omega (arith, ltb-false _ _ l, line_counted, prefix_within in_line t)
 
 pub no_lines : (t : List ℕ) → length t ≡ 0 → lines_of t ≡ []
 unfolding lines_of

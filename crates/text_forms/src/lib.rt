@@ -2,15 +2,14 @@
 #![tactic(auto)]
 
 pub mod line;
-mod table;
 
 ghost use Rattle.std.specs.Prelude.{◌≡◌};
-ghost use Rattle.text_forms.specs.Paper.Forms.{form_of};
-ghost use Rattle.text_forms.specs.FormTable.{made_at};
+ghost use Rattle.std.specs.Option.{option_map};
+ghost use Rattle.text_forms.specs.Paper.Forms.{first_of, form_of};
+ghost use Rattle.text_forms.specs.FormRead.{entry_shapes};
 
 use paper_entries::Entry;
-use table::first;
-use text_scans::PLACES;
+use text_scans::scan;
 
 // A form with its numbers.
 #[derive(Clone, Copy)]
@@ -20,57 +19,56 @@ pub enum Form {
     Pair { a: i32, b: i32 },
     Plan { budget: i32 },
     Tally,
-    // The line is no form.
-    Unknown,
 }
 
-// The first format of the table that the line is written by; each format has its arm in `form_of`, in the same order.
-pub fn read(line: &[u8]) -> Form
+// The first of the entries' formats that the line is written by.
+fn entry(line: &[u8]) -> Option<Entry>
+    ensures { option_map Form.Entry result ≡ first_of entry_shapes line.now }
+{
+    if let Some(numbers) = scan::<4>(b"(add (len #) (win # #) (mark #))", line) {
+        let [length, earliest, latest, mark] = numbers;
+        return Some(Entry::Addition {
+            length,
+            earliest,
+            latest,
+            mark,
+        });
+    }
+    if let Some(numbers) = scan::<2>(b"(arc # #)", line) {
+        let [from, to] = numbers;
+        return Some(Entry::Arc { from, to });
+    }
+    if let Some(numbers) = scan::<2>(b"(mark # #)", line) {
+        let [job, mark] = numbers;
+        return Some(Entry::Mark { job, mark });
+    }
+    let [job, earliest, latest] = scan::<3>(b"(cut # (win # #))", line)?;
+    Some(Entry::Cut {
+        job,
+        earliest,
+        latest,
+    })
+}
+
+// The first of the formats that the line is written by.
+pub fn read(line: &[u8]) -> Option<Form>
     ensures { result ≡ form_of line.now }
 {
-    let table = b"\
-        (add (len #) (win # #) (mark #))\n\
-        (arc # #)\n\
-        (mark # #)\n\
-        (cut # (win # #))\n\
-        (row #)\n\
-        (two # #)\n\
-        (plan #)\n\
-        (tally)\n\
-    ";
-    let found = first(table, line);
-    let numbers = found.numbers;
-    form_of(found.index, numbers)
-}
-
-// The form that a format of the table makes of its numbers, n[0] the first.
-fn form_of(index: usize, n: [i32; PLACES]) -> Form
-    ensures { result ≡ made_at index n }
-{
-    match index {
-        0 => Form::Entry(Entry::Addition {
-            length: n[0],
-            earliest: n[1],
-            latest: n[2],
-            mark: n[3],
-        }),
-        1 => Form::Entry(Entry::Arc {
-            from: n[0],
-            to: n[1],
-        }),
-        2 => Form::Entry(Entry::Mark {
-            job: n[0],
-            mark: n[1],
-        }),
-        3 => Form::Entry(Entry::Cut {
-            job: n[0],
-            earliest: n[1],
-            latest: n[2],
-        }),
-        4 => Form::Row { job: n[0] },
-        5 => Form::Pair { a: n[0], b: n[1] },
-        6 => Form::Plan { budget: n[0] },
-        7 => Form::Tally,
-        _ => Form::Unknown,
+    if let Some(entry) = entry(line) {
+        return Some(Form::Entry(entry));
     }
+    if let Some(numbers) = scan::<1>(b"(row #)", line) {
+        let [job] = numbers;
+        return Some(Form::Row { job });
+    }
+    if let Some(numbers) = scan::<2>(b"(two # #)", line) {
+        let [a, b] = numbers;
+        return Some(Form::Pair { a, b });
+    }
+    if let Some(numbers) = scan::<1>(b"(plan #)", line) {
+        let [budget] = numbers;
+        return Some(Form::Plan { budget });
+    }
+    scan::<0>(b"(tally)", line)?;
+    Some(Form::Tally)
 }

@@ -1,17 +1,10 @@
 // The first line of a text.
 ghost use Rattle.std.specs.Prelude.{◌≡◌};
-ghost use Rattle.text_forms.specs.LineLaws.{line_length};
+ghost use Rattle.text_forms.specs.LineLaws.{line_end};
 
-// How many bytes stand before the first line feed, or in the whole text where there is none.
-pub fn line_length(text: &[u8]) -> usize
-    ensures { result ≡ line_length text.now }
+// How many bytes stand before the first line feed, if there is one.
+pub fn line_end(text: &[u8]) -> Option<usize>
+    ensures { result ≡ line_end text.now }
 {
-    let mut n = 0;
-    while n < text.len() {
-        if text[n] == b'\n' {
-            return n;
-        }
-        n += 1;
-    }
-    n
+    text.iter().position(|byte| *byte == b'\n')
 }

@@ -32,6 +32,10 @@ no_digits (c ∷ t) e = rw e
 pub digits_are_first : (t : List ℕ) → take (length (digits t)) t ≡ digits t
 digits_are_first = digits_ind (λ t ds. take (length ds) t ≡ ds) (λ t e. refl) λ c t e same. ap (λ l. c ∷ l) same
 
+-- digits alone are all digits
+pub digits_again : (t : List ℕ) → digits (digits t) ≡ digits t
+digits_again = digits_ind (λ t ds. digits ds ≡ ds) (λ t e. refl) λ c t e same. rw (e, same)
+
 pub record DigitAt (t ds : List ℕ) (k : ℕ) : Type 0 where
   pub same : get_or t k 0 ≡ get_or ds k 0
   pub low : code "0" ≤ get_or t k 0

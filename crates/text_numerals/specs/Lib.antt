@@ -6,6 +6,6 @@ pub mod NumberRead
 pub mod DigitsRead
 pub mod Value
 pub mod NaturalRead
-pub mod DecimalLaws
 pub mod NumberFirst
+pub mod DecimalLaws
 pub mod Negative

@@ -1,109 +1,90 @@
 // "A number is an optional minus and 1 to 7 decimal digits, no leading zero, no -0."
 #![tactic(auto)]
 
-ghost use Rattle.std.specs.Prelude.{true, ◌≡◌, pos, length};
+ghost use Rattle.std.specs.Prelude.{true, ◌≡◌, pos};
+ghost use Rattle.std.specs.List.{prefix_len};
 ghost use Rattle.text_decimals.specs.Bytes.{is_digit};
 ghost use Rattle.text_numerals.specs.Numerals as numerals;
 ghost use Rattle.text_numerals.specs.Numerals.{is_natural, natural_at, number_at};
 
-// What stands at the start of a text.
+// A number at the start of a text, and how many bytes it takes.
 #[derive(Clone, Copy)]
-pub enum Numeral {
-    // A number, and how many bytes it takes.
-    Number { length: usize, value: i32 },
-    Nothing,
+pub struct Numeral {
+    pub length: usize,
+    pub value: i32,
 }
 
 const MOST_DIGITS: usize = 7;
 
-fn is_digit(byte: u8) -> bool
-    ensures { result ≡ is_digit byte }
+fn digit_count(text: &[u8]) -> usize
+    ensures { result ≡ prefix_len is_digit text.now }
 {
-    b'0' <= byte && byte <= b'9'
+    text.iter().take_while(|byte| byte.is_ascii_digit()).count()
 }
 
-// How many digits a text starts with.
-fn digits(text: &[u8]) -> usize
-    ensures { result ≡ length (numerals.digits text.now) }
+// The digits that a text starts with.
+fn digits(text: &[u8]) -> &[u8]
+    ensures { result.now ≡ numerals.digits text.now }
 {
-    let mut count = 0;
-    while count < text.len() {
-        if !is_digit(text[count]) {
-            return count;
-        }
-        count += 1;
-    }
-    count
+    &text[..digit_count(text)]
 }
 
 // "1 to 7 decimal digits, no leading zero"
-fn is_natural(text: &[u8], count: usize) -> bool
-    requires { count ≡ length (numerals.digits text.now) }
-    ensures { result ≡ is_natural (numerals.digits text.now) }
+fn is_natural(digits: &[u8]) -> bool
+    ensures { result ≡ is_natural digits.now }
 {
-    if count == 0 {
-        return false;
+    match digits {
+        [] => false,
+        [_] => true,
+        [first, ..] => *first != b'0' && digits.len() <= MOST_DIGITS,
     }
-    if MOST_DIGITS < count {
-        return false;
-    }
-    if count == 1 {
-        return true;
-    }
-    text[0] != b'0'
 }
 
 // What the digits at the start of a text come to.
-fn value(text: &[u8], count: usize) -> i32
-    requires { (count ≡ length (numerals.digits text.now)) × (is_natural (numerals.digits text.now) ≡ true) }
-    ensures { result ≡ pos (numerals.value (numerals.digits text.now)) }
+fn value(digits: &[u8]) -> i32
+    requires all_digits { numerals.digits digits.now ≡ digits.now }
+    requires natural { is_natural digits.now ≡ true }
+    ensures { result ≡ pos (numerals.value digits.now) }
 {
-    let mut sum: u32 = 0;
-    let mut k = 0;
-    while k < count {
-        sum = 10 * sum + (text[k] - b'0') as u32;
-        k += 1;
+    let mut sum = 0u32;
+    for digit in digits {
+        sum = 10 * sum + u32::from(digit - b'0');
     }
     sum as i32
 }
 
-fn natural(text: &[u8]) -> Numeral
+fn natural(text: &[u8]) -> Option<Numeral>
     ensures { result ≡ natural_at text.now }
 {
-    let length = digits(text);
-    if !is_natural(text, length) {
-        return Numeral::Nothing;
+    let digits = digits(text);
+    if !is_natural(digits) {
+        return None;
     }
-    Numeral::Number {
-        length,
-        value: value(text, length),
-    }
+    Some(Numeral {
+        length: digits.len(),
+        value: value(digits),
+    })
 }
 
 // "an optional minus", "no -0": the number whose digits come after the minus.
-fn negative(text: &[u8]) -> Numeral
+fn negative(text: &[u8]) -> Option<Numeral>
     ensures { result ≡ numerals.negative (natural_at text.now) }
 {
-    let Numeral::Number { length, value } = natural(text) else {
-        return Numeral::Nothing;
-    };
+    let Numeral { length, value } = natural(text)?;
     if value == 0 {
-        return Numeral::Nothing;
+        return None;
     }
-    Numeral::Number {
+    Some(Numeral {
         length: length + 1,
         value: -value,
-    }
+    })
 }
 
-pub fn number(text: &[u8]) -> Numeral
+pub fn number(text: &[u8]) -> Option<Numeral>
     ensures { result ≡ number_at text.now }
 {
-    if text.len() == 0 {
-        return Numeral::Nothing;
+    match text.strip_prefix(b"-") {
+        Some(digits) => negative(digits),
+        None => natural(text),
     }
-    if text[0] == b'-' {
-        return negative(&text[1..]);
-    }
-    natural(text)
 }

@@ -52,9 +52,8 @@ continues_last b (c ∷ t) h e = rw (lines_unended c t e) (record { output = (on
 -- how far a text was answered: the bytes written are the first of what s gives, and the rest follows from the board and the text
 -- that remain
 pub record Answers (s : Served) (t out : List ℕ) (piece : Piece) : Type 0 where
-  pub continues : Continues s (take piece.written out) piece.board (drop piece.read t)
+  pub continues : Continues s (out) piece.board (drop piece.read t)
   pub passes : passes piece.board ≡ true
   pub read : piece.read ≤ length t
-  pub written : piece.written ≤ length out
   -- so that the whole text is answered in the end
   pub progress : 0 < length t → 0 < piece.read

@@ -4,7 +4,7 @@ use Rattle.std.proofs.Math.Path.{refl}
 use Rattle.std.proofs.Common.{le_refl, arith, le-leb}
 use Rattle.std.proofs.lemmas.Bool.{lt-leb}
 use Rattle.std.proofs.Math.ListN.{drop_of_length-le}
-use Rattle.text_decimals.specs.Written.{Written}
+use Rattle.text_decimals.specs.Written.{Held, Written}
 use Rattle.paper_board.specs.declared.Board.{Board}
 use Rattle.paper_board.specs.declared.Refusal.TheVariants as Refused
 use Rattle.paper_board.specs.Paper.Limits.{empty_board}
@@ -25,17 +25,16 @@ module _ (t : List ℕ) (b : Board) (empty : b ≡ empty_board empty_books) wher
   overloaded_continues = rw empty (record { output = refl; board = refl })
 
   -- "A text refused as 11 gives the line `(no 11)` and no other; none of its forms is carried out."
-  pub overloaded_answers : (out out' : List ℕ) (end : ℕ) → load_limit < length t → answer_room ≤ length out → length out' ≡ length out
-      → Written out 0 out' end (refusal_text (number_of Refused.Load)) answer_room
-      → Answers (serve_text t) t out' (record { board = b; read = length t; written = end })
+  pub overloaded_answers : (old new : Held) → load_limit < length t → old.text ≡ []
+      → Written old new (refusal_text (number_of Refused.Load)) answer_room
+      → Answers (serve_text t) t new.text (record { board = b; read = length t })
   unfolding serve_text
-  overloaded_answers out out' end over room same w =
+  overloaded_answers old new over cleared w =
       rw (lt-leb (length t) load_limit over)
       (record {
-        continues = rw (w.text, drop_of_length-le t (le_refl (length t))) overloaded_continues;
+        continues = rw (w.text, cleared, drop_of_length-le t (le_refl (length t))) overloaded_continues;
         passes = rw empty (empty_passes empty_books within_empty_books);
         read = omega arith;
-        written = omega (arith, w.room);
         progress = λ some. some;
       })
 

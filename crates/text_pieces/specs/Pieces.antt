@@ -1,5 +1,5 @@
 -- The pieces of a text in order: joined, they are the whole output, and the last leaves the board after the whole text.
-use Rattle.std.specs.Prelude.{◌≡◌, true, ℕ, take, drop}
+use Rattle.std.specs.Prelude.{◌≡◌, true, ℕ, drop}
 use Rattle.std.proofs.Math.Path.{sym}
 use Rattle.std.proofs.Common.{ap, ◌∙◌}
 use mathlib.Core.List.{List, [], ◌∷◌, ◌++◌, append-nil, append_assoc}
@@ -14,9 +14,9 @@ use Rattle.text_pieces.specs.Continues.{Continues, continues_then, Answers}
 -- `text_pieces::next` does on the board and the text that remain
 pub data Pieces (text : List ℕ) : List (List ℕ) → Board → List ℕ → Type 0 where
   first : {out : List ℕ} {piece : Piece} → Answers (serve_text text) text out piece
-      → Pieces text (take piece.written out ∷ []) piece.board (drop piece.read text)
+      → Pieces text (out ∷ []) piece.board (drop piece.read text)
   further : {ws : List (List ℕ)} {b : Board} {t out : List ℕ} {piece : Piece} → Pieces text ws b t → Answers (serve b (lines_of t)) t out piece
-      → Pieces text (ws ++ (take piece.written out ∷ [])) piece.board (drop piece.read t)
+      → Pieces text (ws ++ (out ∷ [])) piece.board (drop piece.read t)
 
 abbrev pub joined : List (List ℕ) → List ℕ
 joined [] = []

@@ -1,7 +1,7 @@
-// "The text": a text answered from bytes to bytes, a piece at a time.
+// "The text": a text answered from bytes to bytes, a page at a time.
 #![tactic(auto)]
 
-ghost use Rattle.std.specs.Prelude.{◌≡◌, true, ◌≤◌, length};
+ghost use Rattle.std.specs.Prelude.{◌≡◌, true, ◌≤◌};
 ghost use Rattle.paper_closure.specs.Passes.{passes};
 ghost use Rattle.text_replies.specs.Room.{answer_room};
 ghost use Rattle.text_forms.specs.Paper.Lines.{lines_of};
@@ -10,71 +10,61 @@ ghost use Rattle.text_pieces.specs.Continues.{Answers};
 
 use paper_board::{Board, Refusal};
 use text_answers::carry_out;
-use text_forms::line::line_length;
+use text_decimals::Page;
+use text_forms::line::line_end;
 use text_forms::read;
 use text_replies::{ANSWER_ROOM, put_refusal};
 
 // The most bytes that a text may have.
 pub const LOAD: usize = 65536;
 
-// How far a text was answered: the board after it, how many of its bytes were read, and how many bytes of answers were written.
+// How far a text was answered: the board after it, and how many of its bytes were read.
 #[derive(Clone, Copy)]
 pub struct Piece {
     pub board: Board,
     pub read: usize,
-    pub written: usize,
 }
 
-// Answers as many lines as the buffer has room for, at least one. Each line is read from where the last one ended.
-pub fn next(board: Board, text: &[u8], out: &mut [u8]) -> Piece
-    requires { (passes board ≡ true) × (answer_room ≤ length out.old) }
-    ensures { Answers (paper.serve board (lines_of text.now)) text.now out.new result }
+// Writes the answers to as many lines as the page has room for, at least one. Each line is read from where the last one ended.
+pub fn next(board: Board, text: &[u8], page: &mut Page<'_>) -> Piece
+    requires passes { passes board ≡ true }
+    requires room { answer_room ≤ page.old.capacity }
+    ensures answers { Answers (paper.serve board (lines_of text.now)) text.now page.new.text result }
+    ensures capacity { page.new.capacity ≡ page.old.capacity }
 {
+    page.clear();
     let mut board = board;
     let mut rest = text;
-    let mut at = 0;
-    while 0 < rest.len() {
-        if out.len() - at < ANSWER_ROOM {
-            return Piece {
-                board,
-                read: text.len() - rest.len(),
-                written: at,
-            };
-        }
-        let n = line_length(rest);
-        if n == rest.len() {
-            let end = put_refusal(out, at, Refusal::Form);
+    while !rest.is_empty() && ANSWER_ROOM <= page.room() {
+        let Some(end) = line_end(rest) else {
+            put_refusal(page, Refusal::Form);
             return Piece {
                 board,
                 read: text.len(),
-                written: end,
             };
-        }
-        let answered = carry_out(board, read(&rest[0..n]), out, at);
-        board = answered.board;
-        at = answered.end;
-        let after = n + 1;
-        rest = &rest[after..];
+        };
+        board = carry_out(board, read(&rest[..end]), page);
+        rest = &rest[end + 1..];
     }
     Piece {
         board,
-        read: text.len(),
-        written: at,
+        read: text.len() - rest.len(),
     }
 }
 
 // The first piece of a text, from an empty board.
-pub fn start(text: &[u8], out: &mut [u8]) -> Piece
-    requires { answer_room ≤ length out.old }
-    ensures { Answers (paper.serve_text text.now) text.now out.new result }
+pub fn start(text: &[u8], page: &mut Page<'_>) -> Piece
+    requires { answer_room ≤ page.old.capacity }
+    ensures answers { Answers (paper.serve_text text.now) text.now page.new.text result }
+    ensures capacity { page.new.capacity ≡ page.old.capacity }
 {
     if LOAD < text.len() {
-        let end = put_refusal(out, 0, Refusal::Load);
+        page.clear();
+        put_refusal(page, Refusal::Load);
         return Piece {
             board: Board::empty(),
             read: text.len(),
-            written: end,
         };
     }
-    next(Board::empty(), text, out)
+    next(Board::empty(), text, page)
 }

@@ -1,13 +1,5 @@
--- What the code answers of a scan: whether the text is the format filled in, and the numbers in as many places as a format may have.
-use Rattle.std.specs.Prelude.{ℕ, zero, suc, ◌<◌, eqb, ℤ, pos, length, get_or, Bool, true, false, cond, List, [], ◌∷◌, ◌≡◌, refl}
-use Rattle.std.proofs.lemmas.Bool.{false≢true}
-use Rattle.std.proofs.Math.Option.{Option, none, some}
-use Rattle.std.proofs.Common.{arith}
-use Rattle.text_scans.specs.declared.Scanned.{Scanned}
-
--- the most numbers that a format has
-abbrev pub places : ℕ
-places = 8
+-- What the code answers of a scan: the numbers in so many places, where the text is the format filled in.
+use Rattle.std.specs.Prelude.{ℕ, zero, suc, eqb, ℤ, pos, Bool, false, Option, Some, None, List, [], ◌∷◌}
 
 -- numbers in n places, 0 in those beyond them
 abbrev pub placed : ℕ → List ℤ → List ℤ
@@ -15,27 +7,10 @@ placed zero zs = []
 placed (suc n) [] = pos 0 ∷ placed n []
 placed (suc n) (z ∷ zs) = z ∷ placed n zs
 
-abbrev pub scanned : Option (List ℤ) → Scanned
-scanned none = record { matched = false; numbers = placed places [] }
-scanned (some zs) = record { matched = true; numbers = placed places zs }
+abbrev pub scanned : ℕ → Option (List ℤ) → Option (List ℤ)
+scanned n None = None
+scanned n (Some zs) = Some (placed n zs)
 
 abbrev pub starts_with : ℕ → List ℕ → Bool
 starts_with c [] = false
 starts_with c (x ∷ t) = eqb x c
-
--- the numbers found, where nothing is left of the text
-abbrev pub scanned_whole : List ℕ → List ℤ → Scanned
-scanned_whole t zs = cond (eqb (length t) 0) (record { matched = true; numbers = zs }) (scanned none)
-
--- a text with its first byte apart
-pub starts_none : (c : ℕ) (t : List ℕ) → length t ≡ 0 → starts_with c t ≡ false
-starts_none c [] h = refl
-starts_none c (x ∷ t) h = absurd (omega arith)
-
-pub starts_first : (c : ℕ) (t : List ℕ) → 0 < length t → starts_with c t ≡ eqb (get_or t 0 0) c
-starts_first c [] h = absurd (omega arith)
-starts_first c (x ∷ t) h = refl
-
-pub starts_some : (c : ℕ) (t : List ℕ) → starts_with c t ≡ true → 0 < length t
-starts_some c [] e = absurd (false≢true e)
-starts_some c (x ∷ t) e = omega arith

@@ -1,73 +1,72 @@
 -- What the loop over a format keeps: the numbers found so far come before those of what is left of the format and of the text.
-use Rattle.std.specs.Prelude.{ℕ, zero, suc, ◌+◌, ◌-◌, ◌≤◌, ◌<◌, eqb, ℤ, pos, length, get_or, take, drop, set, true, false, cond, List, [], ◌∷◌, ◌++◌, ◌≡◌, refl}
+use Rattle.std.specs.Prelude.{ℕ, zero, suc, ◌+◌, ◌≤◌, ◌<◌, eqb, ℤ, pos, length, get_or, take, drop, set, List, [], ◌∷◌, ◌++◌, ◌≡◌, refl, Option, Some, None}
 use Rattle.std.proofs.Math.Dec.{eqb-suc-zero}
-use Rattle.std.proofs.Common.{length-set, take-suc-set, get_or-set_other, append-nil, append_assoc, sym, ap, ◌∙◌, add-one, arith, eq-eqb, ne_eqb}
-use Rattle.std.proofs.Math.Option.{Option, none, some}
-use Rattle.text_numerals.specs.Numerals.{number_at}
-use Rattle.text_decimals.specs.Rest.{rest_drop}
-use Rattle.text_numerals.specs.declared.Numeral.TheVariants.{Number, Nothing}
+use Rattle.std.proofs.Common.{length-set, take-suc-set, get_or-set_other, append-nil, append_assoc, sym, ap, ◌∙◌, add-one, arith, eq-eqb, ne_eqb, drop-cons, drop_of_length-le}
+use Rattle.std.specs.Bool.{then_some}
+use Rattle.std.proofs.lemmas.List.{nil_from_length}
+use Rattle.text_numerals.specs.Numerals.{number_at, found}
+use Rattle.text_decimals.specs.Rest.{rest, rest_drop}
 use Rattle.text_formats.specs.Format.{number_mark, scan, with_first, marks}
-use Rattle.text_scans.specs.Scan.{places, placed, scanned, starts_with, scanned_whole}
+use Rattle.text_scans.specs.Scan.{placed, scanned}
 use Rattle.text_scans.specs.Steps.{scan_number, scan_no_number, scan_byte}
 
 -- numbers before those of a scan
 abbrev before : List ℤ → Option (List ℤ) → Option (List ℤ)
-before front none = none
-before front (some zs) = some (front ++ zs)
-
-before_none : (o : Option (List ℤ)) → o ≡ before [] o
-before_none none = refl
-before_none (some zs) = refl
+before front None = None
+before front (Some zs) = Some (front ++ zs)
 
 before_first : (front : List ℤ) (z : ℤ) (o : Option (List ℤ)) → before front (with_first z o) ≡ before (front ++ z ∷ []) o
-before_first front z none = refl
-before_first front z (some zs) = ap some (sym (append_assoc front (z ∷ []) zs))
+before_first front z None = refl
+before_first front z (Some zs) = ap Some (sym (append_assoc front (z ∷ []) zs))
 
-pub record ScanState (format text f t : List ℕ) (zs : List ℤ) (k : ℕ) : Type 0 where
+pub record ScanState (n : ℕ) (format text f t : List ℕ) (zs : List ℤ) (k : ℕ) : Type 0 where
   pub same : scan format text ≡ before (take k zs) (scan f t)
-  pub full : length zs ≡ places
-  pub room : k + marks number_mark f ≤ places
+  pub full : length zs ≡ n
+  pub room : k + marks number_mark f ≤ n
   pub zeros : (i : ℕ) → k ≤ i → get_or zs i (pos 0) ≡ pos 0
 
-marks_first : (f : List ℕ) → 0 < length f → marks number_mark f ≡ cond (eqb (get_or f 0 0) number_mark) 1 0 + marks number_mark (drop 1 f)
-marks_first [] more = absurd (omega arith)
-marks_first (c ∷ f) more = refl
+-- the byte at i of the format
+module _ (n : ℕ) (format text t : List ℕ) (zs : List ℤ) (i k : ℕ) (s : ScanState n format text (drop i format) t zs k) (more : i < length format) where
+  abbrev c : ℕ
+  c = get_or format i 0
 
-none_placed : (n i : ℕ) → get_or (placed n []) i (pos 0) ≡ pos 0
-none_placed zero i = refl
-none_placed (suc n) zero = refl
-none_placed (suc n) (suc i) = none_placed n i
+  abbrev f : List ℕ
+  f = drop (i + 1) format
 
-pub at_start : (format text : List ℕ) → marks number_mark format ≤ places → ScanState format text format text (placed places []) 0
-at_start format text h = record { same = before_none (scan format text); full = refl; room = omega arith; zeros = λ i l. none_placed places i }
+  here : ScanState n format text (c ∷ f) t zs k
+  here = rw (add-one, ← drop-cons format i 0 more) s
 
-module _ (format text f t : List ℕ) (zs : List ℤ) (k : ℕ) (s : ScanState format text f t zs k) (more : 0 < length f) where
-  mark_counted : get_or f 0 0 ≡ number_mark → marks number_mark f ≡ 1 + marks number_mark (drop 1 f)
-  mark_counted m = rw (eq-eqb (get_or f 0 0) number_mark m) at (marks_first f more)
+  pub place_left : c ≡ number_mark → k < length zs
+  place_left m = omega (arith, here.full, rw (eq-eqb c number_mark m) at here.room)
 
-  pub place_left : get_or f 0 0 ≡ number_mark → k < places
-  place_left m = omega (arith, s.room, mark_counted m)
+  pub number_taken : c ≡ number_mark → (j : ℕ) (z : ℤ) → number_at t ≡ found j z → ScanState n format text f (rest t j) (set zs k z) (k + 1)
+  number_taken m j z e =
+      rw rest_drop
+      (record {
+        same = rw (here.same, scan_number (c ∷ f) t j z (omega arith) m e, add-one k, take-suc-set zs k z (place_left m)) (before_first (take k zs) z (scan f (drop j t)));
+        full = length-set zs k z ∙ here.full;
+        room = omega (arith, rw (eq-eqb c number_mark m) at here.room);
+        zeros = λ i l. get_or-set_other zs k i z (pos 0) (omega arith) ∙ here.zeros i (omega arith);
+      })
 
-  pub number_taken : get_or f 0 0 ≡ number_mark → (n : ℕ) (z : ℤ) → number_at t ≡ Number n z
-      → ScanState format text (drop 1 f) (drop n t) (set zs k z) (k + 1)
-  number_taken m n z e =
-      record {
-        same = rw (s.same, scan_number f t n z more m e, add-one k, take-suc-set zs k z (omega (arith, s.full, place_left m))) (before_first (take k zs) z (scan (drop 1 f) (drop n t)));
-        full = length-set zs k z ∙ s.full;
-        room = omega (arith, s.room, mark_counted m);
-        zeros = λ i l. get_or-set_other zs k i z (pos 0) (omega arith) ∙ s.zeros i (omega arith);
-      }
+  pub number_missing : c ≡ number_mark → number_at t ≡ None → None ≡ scanned n (scan format text)
+  number_missing m e = rw (here.same, scan_no_number (c ∷ f) t (omega arith) m e)
 
-  pub number_missing : get_or f 0 0 ≡ number_mark → number_at t ≡ Nothing → scanned none ≡ scanned (scan format text)
-  number_missing m e = rw (s.same, scan_no_number f t more m e)
+  module _ (other : c ≡ number_mark → ⊥) where
+    pub byte_taken : (x : ℕ) (others : List ℕ) → t ≡ x ∷ others → x ≡ c → ScanState n format text f others zs k
+    byte_taken x others is e =
+        record {
+          same = rw (here.same, scan_byte (c ∷ f) t (omega arith) other, is, eq-eqb x c e);
+          full = here.full;
+          room = omega (arith, rw (ne_eqb c number_mark other) at here.room);
+          zeros = here.zeros;
+        }
 
-  pub byte_taken : (get_or f 0 0 ≡ number_mark → ⊥) → starts_with (get_or f 0 0) t ≡ true → ScanState format text (drop 1 f) (drop 1 t) zs k
-  byte_taken m e =
-      let counted = rw (ne_eqb (get_or f 0 0) number_mark m) at (marks_first f more) in
-      record { same = rw (s.same, scan_byte f t more m, e); full = s.full; room = omega (arith, s.room, counted); zeros = s.zeros }
+    pub other_byte : (x : ℕ) (others : List ℕ) → t ≡ x ∷ others → (x ≡ c → ⊥) → None ≡ scanned n (scan format text)
+    other_byte x others is e = rw (here.same, scan_byte (c ∷ f) t (omega arith) other, is, ne_eqb x c e)
 
-  pub byte_missing : (get_or f 0 0 ≡ number_mark → ⊥) → starts_with (get_or f 0 0) t ≡ false → scanned none ≡ scanned (scan format text)
-  byte_missing m e = rw (s.same, scan_byte f t more m, e)
+    pub no_byte : length t ≡ 0 → None ≡ scanned n (scan format text)
+    no_byte e = rw (here.same, scan_byte (c ∷ f) t (omega arith) other, nil_from_length t e)
 
 -- the numbers found so far are all of them where the other places hold 0
 all_placed : (n k : ℕ) (zs : List ℤ) → length zs ≡ n → ((i : ℕ) → k ≤ i → get_or zs i (pos 0) ≡ pos 0) → placed n (take k zs) ≡ zs
@@ -80,13 +79,11 @@ all_placed (suc n) zero (z ∷ zs) h zeros =
 all_placed (suc n) (suc k) (z ∷ zs) h zeros =
     ap (λ l. z ∷ l) (all_placed n k zs (omega arith) λ i l. zeros (suc i) (omega arith))
 
-pub at_end : (format text f t : List ℕ) (zs : List ℤ) (k : ℕ) → ScanState format text f t zs k → length f ≡ 0 → scanned_whole t zs ≡ scanned (scan format text)
+pub at_end : (n : ℕ) (format text t : List ℕ) (zs : List ℤ) (i k : ℕ) → ScanState n format text (drop i format) t zs k → length format ≤ i
+    → then_some (eqb (length t) 0) zs ≡ scanned n (scan format text)
 unfolding scan
-at_end format text (c ∷ f) t zs k s e = absurd (omega arith)
-at_end format text [] (x ∷ t) zs k s e = rw (s.same, eqb-suc-zero (length t))
-at_end format text [] [] zs k s e = rw (s.same, append-nil (take k zs), all_placed places k zs s.full s.zeros)
-
--- the rests of the format and of the text, as the code names them
-pub as_parts : (format text f t : List ℕ) (zs : List ℤ) (k a b : ℕ) → ScanState format text (drop a f) (drop b t) zs k
-    → ScanState format text (take (length f - a) (drop a f)) (take (length t - b) (drop b t)) zs k
-as_parts format text f t zs k a b s = rw (rest_drop f a, rest_drop t b) s
+at_end n format text t zs i k s e = go t (rw (drop_of_length-le format e) at s)
+  where
+    go : (t : List ℕ) → ScanState n format text [] t zs k → then_some (eqb (length t) 0) zs ≡ scanned n (scan format text)
+    go (x ∷ t) s = rw (s.same, eqb-suc-zero (length t))
+    go [] s = rw (s.same, append-nil (take k zs), all_placed n k zs s.full s.zeros)

@@ -1,56 +1,36 @@
--- `call_statements::stated_by` meets its contract, sort by sort: the numbers that the checks let pass can be cast. Assumes nothing.
-use borrow.Author.Rules.{rules}
-use mir.Syntax.{w32}
-use mir.Val.{SFits}
-use mir.ValLaws.{to_z-of_z}
-use Rattle.ground_arithmetic.specs.Linear.{whole}
-use Rattle.paper_entries.proofs.CallNumbers.{addition_numbers, pair_numbers, mark_numbers, cut_numbers}
+-- `call_statements::stated_by` meets its contract: the numbers that the checks let pass can be cast.
+use Rattle.std.proofs.Common.{rules, w32, FitsSigned, to_z-of_z}
+use Rattle.paper_entries.specs.Paper.EntryOf.{entry_of}
+use Rattle.call_statements.specs.StatedBy.{numbers_fit}
 use Rattle.call_statements.proofs.stated_by.Goals as goal
 
--- an addition
 pub mark_value-requires : goal.mark_value-requires
 mark_value-requires c =
-    let g = c.in-Addition in
-    let passed = rw g.is at c.requires in
-    let h = addition_numbers passed.jobs g.length g.earliest g.latest g.mark passed.passed in
-    let m : SFits w32 g.mark = search rules in
-    simp (to_z-of_z, m) (h.low, omega (whole, h.high))
+    let mark : FitsSigned w32 c.in-Addition.mark = search rules in
+    simp (to_z-of_z, mark) (rw c.in-Addition.is at (numbers_fit (entry_of c.args.entry) c.requires))
 
--- an arc
 pub index-requires : goal.index-requires
 index-requires c =
-    let g = c.in-Arc in
-    let passed = rw g.is at c.requires in
-    let a : SFits w32 g.from = search rules in
-    simp (to_z-of_z, a) (pair_numbers passed.jobs g.from g.to passed.passed).first.low
+    let from : FitsSigned w32 c.in-Arc.from = search rules in
+    simp (to_z-of_z, from) (rw c.in-Arc.is at (numbers_fit (entry_of c.args.entry) c.requires)).0
 
 pub index-requires-in-Arc : goal.index-requires-in-Arc
 index-requires-in-Arc c =
-    let g = c.in-Arc in
-    let passed = rw g.is at c.requires in
-    let b : SFits w32 g.to = search rules in
-    simp (to_z-of_z, b) (pair_numbers passed.jobs g.from g.to passed.passed).second.low
+    let to : FitsSigned w32 c.in-Arc.to = search rules in
+    simp (to_z-of_z, to) (rw c.in-Arc.is at (numbers_fit (entry_of c.args.entry) c.requires)).1
 
--- a mark
 pub index-requires-in-Mark : goal.index-requires-in-Mark
 index-requires-in-Mark c =
-    let g = c.in-Mark in
-    let passed = rw g.is at c.requires in
-    let j : SFits w32 g.job = search rules in
-    simp (to_z-of_z, j) (mark_numbers passed.jobs g.job g.mark passed.passed).job.low
+    let job : FitsSigned w32 c.in-Mark.job = search rules in
+    simp (to_z-of_z, job) (rw c.in-Mark.is at (numbers_fit (entry_of c.args.entry) c.requires)).0
 
 pub mark_value-requires-in-Mark : goal.mark_value-requires-in-Mark
 mark_value-requires-in-Mark c =
-    let g = c.in-Mark in
-    let passed = rw g.is at c.requires in
-    let h = mark_numbers passed.jobs g.job g.mark passed.passed in
-    let m : SFits w32 g.mark = search rules in
-    simp (to_z-of_z, m) (omega (whole, h.low), h.high)
+    let mark : FitsSigned w32 c.in-Mark.mark = search rules in
+    let (_, low, high) = rw c.in-Mark.is at (numbers_fit (entry_of c.args.entry) c.requires) in
+    simp (to_z-of_z, mark) (low, high)
 
--- a cut
 pub index-requires-in-Cut : goal.index-requires-in-Cut
 index-requires-in-Cut c =
-    let g = c.in-Cut in
-    let passed = rw g.is at c.requires in
-    let j : SFits w32 g.job = search rules in
-    simp (to_z-of_z, j) (cut_numbers passed.jobs g.job g.earliest g.latest passed.passed).job.low
+    let job : FitsSigned w32 c.in-Cut.job = search rules in
+    simp (to_z-of_z, job) (rw c.in-Cut.is at (numbers_fit (entry_of c.args.entry) c.requires))

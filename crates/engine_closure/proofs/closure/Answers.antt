@@ -1,70 +1,31 @@
 -- `engine_closure::closure` meets its contract: whichever inferences come first, the board stays below every closed board above
--- the one handed in. The measure is the board's own. Assumes nothing.
-use borrow.Author.Rules.{rules}
-use mathlib.Core.Path.{ap}
-use borrow.Author.Tests.{not-true, not-false}
-use Rattle.paper_rules.specs.Update.ArraysWithin.{arrayed, ArraysWithin}
-use Rattle.engine_findings.specs.InferredOf.{inferred_of}
-use Rattle.engine_advance.specs.Advances.{Advances}
-use Rattle.paper_closure.specs.Measure.{measure}
-use Rattle.engine_search.specs.Reads.{arrays_hold}
-use Rattle.engine_closure.specs.LedClosed.{advances_none, advances_possible, advances_within, arrays_none, arrays_next, arrays_contradict, arrays_less, led, led_closed, led_unshown, led_known, led_placed, led_applicable}
+-- the one handed in.
+use Rattle.engine_closure.specs.LedClosed.{led_none, led_closed, led_updates, led_placed, led_next, led_less, led_contradicts}
 use Rattle.engine_closure.proofs.closure.Goals as goal
 
-pub loop-reached-init : goal.loop-reached-init
-loop-reached-init c = (advances_none _ _ _ _ _ _ _, c.requires)
-
-pub advance-reached-requires : goal.advance-reached-requires
-advance-reached-requires c = c.loop-reached.invariant.1
-
--- propagation finds that there is no board
-pub returns-then-not-reached : goal.returns-then-not-reached
-returns-then-not-reached c =
-    arrays_none _ _ _ _ _ _ _ _ _ _ _ _ _ c.loop-reached.invariant.0 (rw (not-true c.advance-reached.result.possible c.if-not-reached.true) at c.advance-reached.ensures.advances)
-
-pub find-found-requires : goal.find-found-requires
-find-found-requires c =
-    let run = c.advance-reached.ensures in
-    arrays_hold _ (led c.loop-reached.invariant (not-false c.advance-reached.result.possible c.if-not-reached.false) (run.advances, run.live_value)).within.within
+pub returns-in_err-marks : goal.returns-in_err-marks
+returns-in_err-marks c = rw c.from_residual.ensures (led_none _ _ c.requires c.loop-marks.invariant c.in_err-marks.ensures)
 
 pub returns-in_default : goal.returns-in_default
-returns-in_default c =
-    let run = c.advance-reached.ensures in
-    led_closed (led c.loop-reached.invariant (not-false c.advance-reached.result.possible c.if-not-reached.false) (run.advances, run.live_value)) _ c.find-found.ensures (search rules)
+returns-in_default c = led_closed _ _ _ c.requires c.loop-marks.invariant _ _ c.in_ok-marks.ensures c.in_default.ensures
 
 pub update-requires : goal.update-requires
 update-requires c =
-    let run = c.advance-reached.ensures in
-    let reached = led c.loop-reached.invariant (not-false c.advance-reached.result.possible c.if-not-reached.false) (run.advances, run.live_value) in
-    let is = ap inferred_of c.in-Inferred.is in
-    (reached.within, led_known reached _ c.find-found.ensures _ is, led_applicable reached _ c.find-found.ensures _ is)
+    led_updates _ _ _ c.requires c.loop-marks.invariant _ _ c.in_ok-marks.ensures _ c.in-Some.ensures
 
-pub returns-then-not-update : goal.returns-then-not-update
-returns-then-not-update c =
-    let run = c.advance-reached.ensures in
-    let reached = led c.loop-reached.invariant (not-false c.advance-reached.result.possible c.if-not-reached.false) (run.advances, run.live_value) in
-    let new = led_unshown reached _ c.find-found.ensures _ (ap inferred_of c.in-Inferred.is) in
-    arrays_contradict _ _ _ _ _ _ _ _ _ _ _ _ _ reached.run _ new (rw c.if-not-update.true at c.update.ensures)
+pub returns-in_err-update : goal.returns-in_err-update
+returns-in_err-update c =
+    rw c.from_residual-in_err-update.ensures
+    (led_contradicts _ _ _ c.requires c.loop-marks.invariant _ _ c.in_ok-marks.ensures _ c.in-Some.ensures c.in_err-update.ensures)
 
 pub concerned-due-requires : goal.concerned-due-requires
 concerned-due-requires c =
-    let run = c.advance-reached.ensures in
-    let reached = led c.loop-reached.invariant (not-false c.advance-reached.result.possible c.if-not-reached.false) (run.advances, run.live_value) in
-    led_placed reached _ c.find-found.ensures _ (ap inferred_of c.in-Inferred.is)
+    led_placed _ _ _ c.requires c.loop-marks.invariant _ _ c.in_ok-marks.ensures _ c.in-Some.ensures
 
-pub loop-reached-smaller : goal.loop-reached-smaller
-loop-reached-smaller c =
-    let run = c.advance-reached.ensures in
-    let inv = c.loop-reached.invariant in
-    let reached = led c.loop-reached.invariant (not-false c.advance-reached.result.possible c.if-not-reached.false) (run.advances, run.live_value) in
-    let new = led_unshown reached _ c.find-found.ensures _ (ap inferred_of c.in-Inferred.is) in
-    let on = advances_possible _ _ _ _ _ _ _ _ _ _ _ _ _ _ (not-false c.advance-reached.result.possible c.if-not-reached.false) run.advances in
-    arrays_less _ _ _ _ _ _ _ _ _ _ _ _ _ on _ new _ _ _ _ _ _ inv.1 (rw c.if-not-update.false at c.update.ensures)
+pub loop-marks-smaller : goal.loop-marks-smaller
+loop-marks-smaller c =
+    led_less _ _ _ c.requires c.loop-marks.invariant _ _ c.in_ok-marks.ensures _ c.in-Some.ensures _ c.in_ok-update.ensures
 
-pub loop-reached-preserved : goal.loop-reached-preserved
-loop-reached-preserved c =
-    let run = c.advance-reached.ensures in
-    let reached = led c.loop-reached.invariant (not-false c.advance-reached.result.possible c.if-not-reached.false) (run.advances, run.live_value) in
-    let new = led_unshown reached _ c.find-found.ensures _ (ap inferred_of c.in-Inferred.is) in
-    let more = arrays_next _ _ _ _ _ _ _ _ _ _ _ _ _ reached.run _ new _ _ _ _ _ _ (rw c.if-not-update.false at c.update.ensures) in
-    (more, advances_within _ _ _ _ _ _ _ _ _ _ _ _ _ more c.requires)
+pub loop-marks-preserved : goal.loop-marks-preserved
+loop-marks-preserved c =
+    led_next _ _ _ c.requires c.loop-marks.invariant _ _ c.in_ok-marks.ensures _ c.in-Some.ensures _ c.in_ok-update.ensures

@@ -1,17 +1,19 @@
 -- `engine_detection::detect_beside` meets its contract: one pair after the other. Assumes nothing.
-use Rattle.engine_arcs.specs.Arcs.{sound_none}
-use Rattle.engine_detection.specs.Detection.{Beside, beside_more}
+use Rattle.engine_arcs.specs.Arcs.{arcs_alone_then}
+use Rattle.engine_detection.specs.Detection.{Pair, sound_since, beside_more}
 use Rattle.engine_detection.proofs.detect_beside.Goals as goal
 
-pub loop-left-init : goal.loop-left-init
-loop-left-init c = (λ x e. e, sound_none (Beside _ _ _ _ _) _ _)
-
-pub loop-left-preserved : goal.loop-left-preserved
-loop-left-preserved c =
-    let (left, run) = c.loop-left.invariant in
-    let taken = c.take_lowest-taken.ensures in
-    let member = left _ taken.member in
-    (λ x e. left x (taken.inside x e), beside_more _ _ _ _ _ _ _ _ _ run _ member _ _ c.detect_on.ensures)
-
-pub returns : goal.returns
-returns c = c.loop-left.invariant.1
+pub loop-k-preserved : goal.loop-k-preserved
+loop-k-preserved c =
+    let inv = c.loop-k.invariant in
+    let taken = c.in-Some.ensures.steps.1 in
+    let e = c.detect_on.ensures in
+    let start = c.args.board.now in
+    let board = c.loop-k.board in
+    let next = c.detect_on.new.board in
+    let pair = sound_since (Pair c.args.job c.in-Some.k) start board next inv.kept e.sound in
+    record {
+      left = λ x m. inv.left x (taken.inside x m);
+      kept = arcs_alone_then start board next inv.kept e.kept;
+      run = beside_more _ _ _ _ _ _ _ _ _ inv.run _ (inv.left _ taken.member) _ _ pair;
+    }

@@ -1,10 +1,6 @@
--- `engine_detection::last_end` meets its contract: the last end is far from the ends of an i32. The measure is the word of the jobs
--- that are left. Assumes nothing.
-use mathlib.Core.Path.{◌∙◌}
-use lib.IntN.{ℤ}
-use lib.Signed.{lt_z}
-use mir.Syntax.{w32}
-use mir.ValLaws.{to_z-of_z}
+-- `engine_detection::last_end` meets its contract: the last end is far from the ends of an i32. Assumes nothing.
+use Rattle.std.proofs.Common.{◌∙◌, to_z-of_z, w32, ℤ}
+use Rattle.std.specs.Int.Signed.{lt_z}
 use Rattle.ground_arithmetic.specs.Bools.{by_test}
 use Rattle.ground_arithmetic.specs.Time.{Moderate, greater}
 use Rattle.paper_board.specs.Paper.Values.{side_of}
@@ -14,13 +10,10 @@ use Rattle.engine_detection.proofs.last_end.Goals as goal
 moderate : (a b : ℤ) → Moderate a → Moderate b → Moderate (greater a b)
 moderate a b h k = by_test Moderate (lt_z a b) b a (λ e. k) (λ e. h)
 
-pub loop-left-preserved : goal.loop-left-preserved
-loop-left-preserved c =
-    let (hours, work) = c.requires in
-    let end = end_at_moderate (side_of c.args.side) hours work c.take_lowest-taken.result.member in
-    let end_is = to_z-of_z w32 _ (record { sfits = c.end.type_inv }) ∙ c.end.ensures in
-    let last_is = to_z-of_z w32 _ (record { sfits = c.greater-last.type_inv }) ∙ (rw end_is at c.greater-last.ensures) in
-    rw last_is (moderate _ _ c.loop-left.invariant end)
-
-pub returns : goal.returns
-returns c = c.loop-left.invariant
+pub loop-k-preserved : goal.loop-k-preserved
+loop-k-preserved c =
+    let all = c.args.bounds in
+    let end = end_at_moderate (side_of all.side) all.hours all.work c.in-Some.k in
+    let end_is = to_z-of_z {w = w32} (record { sfits = c.end.type_inv }) ∙ c.end.ensures in
+    let last_is = to_z-of_z {w = w32} (record { sfits = c.greater-last.type_inv }) ∙ (rw end_is at c.greater-last.ensures) in
+    rw last_is (moderate _ _ c.loop-k.invariant end)

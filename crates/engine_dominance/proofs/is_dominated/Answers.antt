@@ -1,7 +1,7 @@
 -- `engine_dominance::is_dominated` meets its contract: nothing of the set is left without the word, and the time is not lower. Assumes nothing.
-use borrow.Author.Tests.{not-true}
-use mathlib.Core.Path.{sym, ◌∙◌}
-use mir.ValLaws.{to_z-of_z}
+use Rattle.std.proofs.Common.{sym, ◌∙◌}
+use Rattle.std.proofs.lemmas.Bool.{not-true}
+use Rattle.std.proofs.lemmas.Int.{to_z-of_z}
 use Rattle.ground_sets.specs.BitLaws.{subset_yes}
 use Rattle.engine_dominance.specs.Dominance.{tested}
 use Rattle.engine_dominance.proofs.is_dominated.Goals as goal

@@ -7,9 +7,9 @@ use Rattle.engine_energy.proofs.energy_bound.Given as goal
 
 abbrev pub invariant-loop-play : goal.invariant-loop-play
 invariant-loop-play l =
-    InPlay (side_of l.side) l.times l.lengths l.set l.play.set l.best
-    × Best (side_of l.side) l.times l.lengths l.set l.low l.best
-    × Comes (side_of l.side) l.times l.lengths l.play.set l.play.least l.play.total
+    InPlay (side_of l.bounds.side) l.bounds.times.now l.bounds.lengths.now l.set l.play.set l.best
+    × Best (side_of l.bounds.side) l.bounds.times.now l.bounds.lengths.now l.set l.low l.best
+    × Comes (side_of l.bounds.side) l.bounds.times.now l.bounds.lengths.now l.play.set l.play.least l.play.total
 
 abbrev pub decreases-loop-play : goal.decreases-loop-play
 decreases-loop-play l = l.play.set

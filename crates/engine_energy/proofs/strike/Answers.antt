@@ -1,14 +1,9 @@
 -- `engine_energy::strike` meets its contract. The loop's invariant: the jobs kept come from strikes, each one passed beats the best, least
--- is of those passed, and total is of all kept. The measure is the word of what is left. Assumes nothing.
-use mathlib.Core.Path.{◌≡◌, ap, ◌∙◌, subst⁻¹}
-use mathlib.Core.Bool.{Bool, true, false}
-use mathlib.Core.List.{List}
-use Prim.Native.Nat.{ℕ, ◌^◌, ◌<◌}
-use lib.IntN.{ℤ, neg_ℤ, ◌+ℤ◌, ◌-ℤ◌}
-use lib.Signed.{le_z, ◌<ℤ◌, ◌≤ℤ◌}
-use mir.Syntax.{w32}
-use mir.Val.{to_z, of_z}
-use mir.ValLaws.{to_z-of_z}
+-- is of those passed, and total is of all kept. Assumes nothing.
+use Rattle.std.proofs.Common.{◌≡◌, ap, ◌∙◌, Bool, true, false, List, ℕ, ◌^◌, ◌<◌, ℤ, neg_ℤ, ◌+ℤ◌, ◌-ℤ◌, ◌<ℤ◌, ◌≤ℤ◌, w32, to_z, of_z}
+use Rattle.std.proofs.Math.Path.{subst⁻¹}
+use Rattle.std.specs.Int.Signed.{le_z}
+use Rattle.std.proofs.lemmas.Int.{to_z-of_z}
 use Rattle.ground_sets.specs.Bit.{bit, without}
 use Rattle.ground_walks.specs.Takes.{Takes}
 use Rattle.ground_sets.specs.BitLaws.{bit_zero}
@@ -26,7 +21,7 @@ use Rattle.engine_sums.specs.TotalWithout.{total_without}
 use Rattle.engine_energy.specs.Passed.{none_passed, all_passed, pass, pass_struck, kept_passed}
 use Rattle.engine_energy.proofs.strike.Goals as goal
 use Rattle.engine_energy.proofs.strike.Invariants.{Tested}
-use Rattle.engine_energy.proofs.strike.Goals.{After-bound-low, After-sum, At-loop-left}
+use Rattle.engine_energy.proofs.strike.Goals.{After-at-low, After-sum}
 
 module _ {s : Side} {times lengths : List ℤ} {best : ℤ} {set : ℕ} (fits : set < 2 ^ job_limit) where
   none_tested : (all : ℤ) → all ≡ load lengths set → Tested s times lengths best set set set last_minute all
@@ -71,50 +66,53 @@ module _ {s : Side} {times lengths : List ℤ} {best : ℤ} {set : ℕ} (fits : 
             loaded = p.loaded;
           }
 
-pub loop-left-init : goal.loop-left-init
-loop-left-init c = none_tested c.ranges.set.fits _ (to_z-of_z w32 _ c.ranges.load ∙ c.requires.load_value)
+pub loop-k-init : goal.loop-k-init
+loop-k-init c =
+    let start : c.into_iter-k-iterator.result.left ≡ c.args.set = cc in
+    rw start (none_tested c.ranges.set.fits _ (to_z-of_z w32 _ c.ranges.load ∙ c.requires.load_value))
 
 -- a bound, as the machine reads it back from its bits
-low_is : (c : After-bound-low)
-    → let a = c.args in
-    to_z w32 (of_z w32 c.bound-low.result) ≡ bound_at (side_of a.side) a.times.now c.take_next-taken.result.member
-low_is c = to_z-of_z w32 _ (record { sfits = c.bound-low.type_inv }) ∙ c.bound-low.ensures
+low_is : (c : After-at-low)
+    → let b = c.args.bounds in
+    to_z w32 (of_z w32 c.at-low.result) ≡ bound_at (side_of b.side) b.times.now c.in-Some.k
+low_is c = to_z-of_z w32 _ (record { sfits = c.at-low.type_inv }) ∙ c.at-low.ensures
 
 pub sum-requires : goal.sum-requires
 sum-requires c =
-    (rw (low_is c) (bound_moderate (side_of c.args.side) c.requires.times c.take_next-taken.result.member), subst⁻¹ Moderate c.loop-left.invariant.loaded (load_moderate c.requires.lengths _))
+    let b = c.args.bounds in
+    (rw (low_is c) (bound_moderate (side_of b.side) b.hours c.in-Some.k), subst⁻¹ Moderate c.loop-k.invariant.loaded (load_moderate b.work _))
 
 -- the bound with the total, as the machine reads it back from its bits
 sum_is : (c : After-sum)
-    → let a = c.args in
-    to_z w32 (of_z w32 c.sum.result) ≡ bound_at (side_of a.side) a.times.now c.take_next-taken.result.member +ℤ to_z w32 c.loop-left.total-bits
+    → let b = c.args.bounds in
+    to_z w32 (of_z w32 c.sum.result) ≡ bound_at (side_of b.side) b.times.now c.in-Some.k +ℤ to_z w32 c.loop-k.total-bits
 sum_is c = to_z-of_z w32 _ (record { sfits = c.sum.type_inv }) ∙ (rw (low_is c.before) at c.sum.ensures)
 
 pub gap-total-requires : goal.gap-total-requires
 gap-total-requires c =
-    let work = c.requires.lengths in
-    let k = c.take_next-taken.result.member in
-    (subst⁻¹ Moderate c.loop-left.invariant.loaded (load_moderate c.requires.lengths _), simp (to_z-of_z, length_fits work k) (length_at_moderate work k))
+    let work = c.args.bounds.work in
+    let k = c.in-Some.k in
+    (subst⁻¹ Moderate c.loop-k.invariant.loaded (load_moderate work _), simp (to_z-of_z, length_fits work k) (length_at_moderate work k))
 
-pub loop-left-preserved-then-sum-best : goal.loop-left-preserved-then-sum-best
-loop-left-preserved-then-sum-best c =
-    let less = simp (to_z-of_z, length_fits c.requires.lengths c.take_next-taken.result.member) at c.gap-total.ensures in
+pub loop-k-preserved-then-sum-best : goal.loop-k-preserved-then-sum-best
+loop-k-preserved-then-sum-best c =
+    let less = simp (to_z-of_z, length_fits c.args.bounds.work c.in-Some.k) at c.gap-total.ensures in
     rw (c.without-kept.ensures, to_z-of_z w32 c.gap-total.result (record { sfits = c.gap-total.type_inv }), less)
-    (strike c.ranges.set.fits c.loop-left.invariant c.take_next-taken.ensures (rw (sum_is c.before.before.before.before) at c.if-sum-best.true))
+    (strike c.ranges.set.fits c.loop-k.invariant c.in-Some.ensures.steps.1 (rw (sum_is c.before.before.before.before) at c.if-sum-best.true))
 
-pub loop-left-preserved : goal.loop-left-preserved
-loop-left-preserved c =
+pub loop-k-preserved : goal.loop-k-preserved
+loop-k-preserved c =
     let d = c.lesser-least in
     let least = to_z-of_z w32 d.result (record { sfits = d.type_inv }) ∙ (rw (low_is c.before.before.before) at d.ensures) in
-    rw least (keep c.ranges.set.fits c.loop-left.invariant c.take_next-taken.ensures c.requires.lengths (rw (sum_is c.before.before) at c.if-sum-best.false))
+    rw least (keep c.ranges.set.fits c.loop-k.invariant c.in-Some.ensures.steps.1 c.args.bounds.work (rw (sum_is c.before.before) at c.if-sum-best.false))
 
 pub returns : goal.returns
 returns c =
-    let p = c.loop-left.invariant in
-    let empty = c.loop-left-test.false in
+    let p = c.loop-k.invariant in
+    let empty = c.in-None.ensures.steps.1.0 in
     let best = to_z-of_z w32 _ c.ranges.best in
     record {
       strikes = rw best at p.strikes;
       beats = rw best at (all_tested c.ranges.set.fits p empty);
-      comes = record { least = all_passed c.requires.times p.passed empty; loaded = p.loaded };
+      comes = record { least = all_passed c.args.bounds.hours p.passed empty; loaded = p.loaded };
     }

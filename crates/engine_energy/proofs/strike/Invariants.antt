@@ -1,11 +1,6 @@
 -- `engine_energy::strike` meets its contract. The loop's invariant: the jobs kept come from strikes, each one passed beats the best, least
--- is of those passed, and total is of all kept. The measure is the word of what is left. Assumes nothing.
-use mathlib.Core.Path.{◌≡◌}
-use mathlib.Core.Bool.{true, false}
-use mathlib.Core.List.{List}
-use Prim.Native.Nat.{ℕ}
-use lib.IntN.{ℤ, ◌+ℤ◌}
-use lib.Signed.{◌<ℤ◌}
+-- is of those passed, and total is of all kept. Assumes nothing.
+use Rattle.std.proofs.Common.{◌≡◌, true, false, List, ℕ, ℤ, ◌+ℤ◌, ◌<ℤ◌}
 use Rattle.ground_sets.specs.Bit.{bit}
 use Rattle.paper_board.specs.Paper.View.{Side}
 use Rattle.paper_board.specs.Paper.Values.{side_of}
@@ -19,9 +14,6 @@ pub record Tested (s : Side) (times lengths : List ℤ) (best : ℤ) (set kept l
   pub over : (j : ℕ) → bit kept j ≡ true → bit left j ≡ false → best <ℤ (bound_at s times j +ℤ load lengths set)
   pub loaded : all ≡ load lengths kept
 
-abbrev pub invariant-loop-left : goal.invariant-loop-left
-invariant-loop-left l =
-    Tested (side_of l.side) l.times l.lengths l.best l.set l.kept l.left l.least l.total
-
-abbrev pub decreases-loop-left : goal.decreases-loop-left
-decreases-loop-left l = l.left
+abbrev pub invariant-loop-k : goal.invariant-loop-k
+invariant-loop-k l =
+    Tested (side_of l.bounds.side) l.bounds.times.now l.bounds.lengths.now l.best l.set l.kept l.k-iterator.left l.least l.total

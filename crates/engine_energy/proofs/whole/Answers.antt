@@ -1,16 +1,11 @@
 -- `engine_energy::whole` meets its contract. The loop's invariant: least is of the jobs passed, and total with the lengths of those left
--- comes to all lengths. The measure is the word of what is left. Assumes nothing.
-use mathlib.Core.Path.{◌≡◌, refl, ◌∙◌}
-use mathlib.Core.Bool.{false}
-use mathlib.Core.List.{List}
-use Prim.Native.Nat.{ℕ}
-use lib.IntN.{ℤ, pos, ◌+ℤ◌}
-use mir.Syntax.{w32}
-use mir.ValLaws.{to_z-of_z}
-use Rattle.ground_sets.specs.Bit.{bit}
+-- comes to all lengths. Assumes nothing.
+use Rattle.std.proofs.Common.{◌≡◌, List, ℕ, Bool, ℤ, pos, ◌+ℤ◌, w32, ◌∙◌}
+use Rattle.std.proofs.lemmas.Int.{to_z-of_z}
 use Rattle.ground_walks.specs.Takes.{Takes}
 use Rattle.ground_arithmetic.specs.Linear.{whole, plus}
 use Rattle.ground_arithmetic.specs.Sum.{total_member}
+use Rattle.ground_sets.specs.Bit.{bit}
 use Rattle.ground_arithmetic.specs.Time.{Moderate, lesser}
 use Rattle.paper_board.specs.Paper.View.{Side}
 use Rattle.paper_board.specs.Paper.Limits.{job_limit}
@@ -34,7 +29,7 @@ module _ {s : Side} {times lengths : List ℤ} {set left : ℕ} {low all : ℤ} 
         loaded = omega (whole, p.loaded, load_none lengths left empty, plus all (load lengths left));
       }
 
-  add : {k rest : ℕ} → Takes job_limit false left k rest
+  add : {k rest : ℕ} {downward : Bool} → Takes job_limit downward left k rest
       → Tested s times lengths set rest (lesser low (bound_at s times k)) (all +ℤ length_at lengths k)
   add {k} {rest} taken =
       let fewer = total_member job_limit (bit left) (bit rest) (length_at lengths) k taken.width taken.member taken.out taken.others in
@@ -44,27 +39,27 @@ module _ {s : Side} {times lengths : List ℤ} {set left : ℕ} {low all : ℤ} 
         loaded = omega (whole, p.loaded, fewer, plus all (load lengths left), plus length (load lengths rest), plus all length, plus (all +ℤ length) (load lengths rest));
       }
 
-pub loop-left-init : goal.loop-left-init
-loop-left-init c =
-    record {
+pub loop-k-init : goal.loop-k-init
+loop-k-init c =
+    let start : c.into_iter-k-iterator.result.left ≡ c.args.set = cc in
+    rw start
+    (record {
       passed = none_passed _ _ _ c.ranges.set.fits;
-      loaded = omega (whole, plus (pos 0) (load c.args.lengths.now c.args.set));
-    }
+      loaded = omega (whole, plus (pos 0) (load c.args.bounds.lengths.now c.args.set));
+    })
 
 pub sum-total-requires : goal.sum-total-requires
 sum-total-requires c =
-    let k = c.take_lowest-taken.result.member in
-    let work = c.requires.lengths in
-    (moderate c.loop-left.invariant work, simp (to_z-of_z, length_fits work k) (length_at_moderate work k))
+    let work = c.args.bounds.work in
+    (moderate c.loop-k.invariant work, simp (to_z-of_z, length_fits work c.in-Some.k) (length_at_moderate work c.in-Some.k))
 
-pub loop-left-preserved : goal.loop-left-preserved
-loop-left-preserved c =
-    let b = c.bound in
+pub loop-k-preserved : goal.loop-k-preserved
+loop-k-preserved c =
     let d = c.lesser-least in
-    let bound_is = to_z-of_z w32 b.result (record { sfits = b.type_inv }) ∙ b.ensures in
+    let bound_is = to_z-of_z w32 c.at.result (record { sfits = c.at.type_inv }) ∙ c.at.ensures in
     let least = to_z-of_z w32 d.result (record { sfits = d.type_inv }) ∙ (rw bound_is at d.ensures) in
-    let sum = simp (to_z-of_z, length_fits c.requires.lengths c.take_lowest-taken.result.member) at c.sum-total.ensures in
-    rw (least, to_z-of_z w32 c.sum-total.result (record { sfits = c.sum-total.type_inv }), sum) (add c.loop-left.invariant c.take_lowest-taken.ensures)
+    let sum = simp (to_z-of_z, length_fits c.args.bounds.work c.in-Some.k) at c.sum-total.ensures in
+    rw (least, to_z-of_z w32 c.sum-total.result (record { sfits = c.sum-total.type_inv }), sum) (add c.loop-k.invariant c.in-Some.ensures.steps.1)
 
-pub returns : goal.returns
-returns c = record { set_value = refl; comes = all_tested c.loop-left.invariant c.requires.times c.loop-left-test.false }
+pub returns-clause-comes : goal.returns-clause-comes
+returns-clause-comes c = all_tested c.loop-k.invariant c.args.bounds.hours c.in-None.ensures.steps.1.0

@@ -3,8 +3,5 @@ use Rattle.paper_board.specs.BoardTests.Sets.{Subset}
 use Rattle.engine_exclusion.specs.Gone.{Unfit}
 use Rattle.engine_exclusion.proofs.unfit.Given as goal
 
-abbrev pub invariant-loop-left : goal.invariant-loop-left
-invariant-loop-left l = Subset l.left l.set × Unfit l.earliest l.latest l.lengths l.set l.found
-
-abbrev pub decreases-loop-left : goal.decreases-loop-left
-decreases-loop-left l = l.left
+abbrev pub invariant-loop-k : goal.invariant-loop-k
+invariant-loop-k l = Subset l.k-iterator.left l.set × Unfit l.windows.earliest.now l.windows.latest.now l.windows.lengths.now l.set l.found

@@ -1,16 +1,13 @@
--- `engine_makespan::append_eight` meets its contract: one job after the other. The measure is the jobs that are left of the eight. Assumes nothing.
-use Prim.Native.Nat.{ℕ, ◌≤◌, ◌-◌}
+-- `engine_makespan::append_eight` meets its contract: one job after the other. Assumes nothing.
+use Rattle.std.proofs.Common.{ℕ}
 use Rattle.paper_board.specs.Paper.Values.{side_of}
 use Rattle.engine_makespan.specs.Makespan.{EndInRange, Sequenced}
 use Rattle.engine_makespan.proofs.append_eight.Given as goal
 
 abbrev pub invariant-loop : goal.invariant-loop
 invariant-loop l =
+    let b = l.bounds in
     record {
-      counted : l.counter ≤ 8;
-      ends : EndInRange l.lengths l.sequence.left l.sequence.end;
-      onward : (set : ℕ) → Sequenced (side_of l.side) l.times l.lengths set l.initial.sequence.left l.initial.sequence.end → Sequenced (side_of l.side) l.times l.lengths set l.sequence.left l.sequence.end;
+      ends : EndInRange b.lengths.now l.sequence.left l.sequence.end;
+      onward : (set : ℕ) → Sequenced (side_of b.side) b.times.now b.lengths.now set l.initial.sequence.left l.initial.sequence.end → Sequenced (side_of b.side) b.times.now b.lengths.now set l.sequence.left l.sequence.end;
     }
-
-abbrev pub decreases-loop : goal.decreases-loop
-decreases-loop l = 8 - l.counter

@@ -1,6 +1,6 @@
 -- `engine_partners::excluded` meets its contract, member by member. Assumes nothing.
-use mathlib.Core.Path.{sym, ap, ◌∙◌}
-use mathlib.Core.Bool.{and-true, and-false}
+use Rattle.std.proofs.Common.{sym, ap, ◌∙◌}
+use Rattle.std.proofs.Math.Bool.{and-true, and-false}
 use Rattle.ground_sets.specs.Bit.{bit}
 use Rattle.ground_sets.specs.BitLaws.{bit_zero, bit_intersection}
 use Rattle.engine_partners.proofs.excluded.Goals as goal

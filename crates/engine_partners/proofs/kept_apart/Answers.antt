@@ -1,14 +1,9 @@
--- `engine_partners::kept_apart` meets its contract. Assumes nothing.
-use mathlib.Core.Path.{sym, ap, ◌∙◌}
-use mathlib.Core.Logic.{inl, inr}
+-- `engine_partners::kept_apart` meets its contract: the others are valid themselves. Assumes nothing.
+use Rattle.std.proofs.Common.{sym, ap, ◌∙◌, inr}
 use Rattle.ground_sets.specs.Bit.{bit}
 use Rattle.ground_sets.specs.BitLaws.{bit_intersection}
 use Rattle.ground_arithmetic.specs.Bools.{and_parts}
 use Rattle.engine_partners.proofs.kept_apart.Goals as goal
-
-pub returns-then-has : goal.returns-then-has
-returns-then-has c =
-    record { width = c.ranges.beside.fits; member = λ k e. (e, inl (sym c.has.ensures ∙ c.if-has.true)) }
 
 pub returns : goal.returns
 returns c =

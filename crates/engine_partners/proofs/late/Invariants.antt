@@ -3,8 +3,8 @@
 use Rattle.engine_partners.specs.Partners.{LateLeft}
 use Rattle.engine_partners.proofs.late.Given as goal
 
-abbrev pub invariant-loop-left : goal.invariant-loop-left
-invariant-loop-left l = LateLeft l.latest l.lengths l.set l.end l.left
+abbrev pub invariant-loop-k : goal.invariant-loop-k
+invariant-loop-k l = LateLeft l.ends.times.now l.ends.lengths.now l.set l.end l.jobs.left
 
-abbrev pub decreases-loop-left : goal.decreases-loop-left
-decreases-loop-left l = l.left
+abbrev pub decreases-loop-k : goal.decreases-loop-k
+decreases-loop-k l = l.jobs.left

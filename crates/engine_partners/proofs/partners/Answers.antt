@@ -1,5 +1,5 @@
 -- `engine_partners::partners` meets its contract: what each rule leaves, together. Assumes nothing.
-use mir.ValLaws.{to_z-of_z}
+use Rattle.std.proofs.lemmas.Int.{to_z-of_z}
 use Rattle.engine_partners.specs.RowRead.{row_left}
 use Rattle.engine_partners.proofs.partners.Goals as goal
 
@@ -10,5 +10,5 @@ returns c =
     let through = c.joined-through in
     let end = simp (to_z-of_z, c.ranges.end) at c.ordered-late.ensures in
     rw (c.union-2.ensures, c.union.ensures)
-    (row_left a.i a.live a.valid a.before a.after a.end a.latest.now a.lengths.now a.afters.now
+    (row_left a.i a.sets.live a.sets.valid a.before a.after a.end a.ends.times.now a.ends.lengths.now a.afters.now
     c.ordered-late.result both.result through.result end both.ensures through.ensures)

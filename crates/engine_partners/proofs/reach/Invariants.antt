@@ -3,8 +3,8 @@
 use Rattle.engine_partners.specs.Partners.{Looked}
 use Rattle.engine_partners.proofs.reach.Given as goal
 
-abbrev pub invariant-loop-left : goal.invariant-loop-left
-invariant-loop-left l = Looked l.after l.set l.left l.all
+abbrev pub invariant-loop-k : goal.invariant-loop-k
+invariant-loop-k l = Looked l.after l.set l.jobs.left l.all
 
-abbrev pub decreases-loop-left : goal.decreases-loop-left
-decreases-loop-left l = l.left
+abbrev pub decreases-loop-k : goal.decreases-loop-k
+decreases-loop-k l = l.jobs.left

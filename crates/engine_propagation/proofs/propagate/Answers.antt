@@ -1,47 +1,30 @@
--- `engine_propagation::propagate` meets its contract: one turn after the other. The measure is the turns that are left. Assumes nothing.
-use borrow.Author.Rules.{rules}
-use Prim.Native.Nat.{◌≤◌, ◌-◌}
-use native.Mathlib.Omega.{arith}
-use Rattle.engine_sums.specs.Sums.{Times}
-use Rattle.engine_propagation.specs.Turns.{Run, run_none, run_on, run_onward, run_shut}
+-- `engine_propagation::propagate` meets its contract: one turn after the other. Assumes nothing.
+use Rattle.std.proofs.Common.{◌≡◌, refl, ap, ◌∙◌}
+use Rattle.engine_propagation.specs.Turns.{tabled, run_none, run_on, run_onward}
 use Rattle.engine_propagation.proofs.propagate.Goals as goal
 
 pub loop-init : goal.loop-init
 loop-init c =
     record {
-      counted = omega arith;
-      early = c.requires.0;
-      late = c.requires.1;
+      hours = c.requires;
+      kept = refl;
       run = run_none _ _ _ _ _ _ _;
     }
-
-pub turn-next-requires : goal.turn-next-requires
-turn-next-requires c =
-    (c.loop.invariant.early, c.loop.invariant.late, c.requires.2)
 
 pub loop-preserved : goal.loop-preserved
 loop-preserved c =
     let inv = c.loop.invariant in
     let e = c.turn-next.ensures in
+    let n = c.turn-next.new.board in
+    let same : c.loop.board.lengths ≡ c.args.board.now.lengths = ap (λ b. b.lengths) inv.kept in
     record {
-      counted = omega (arith, c.loop-test.true);
-      early = e.times.0;
-      late = e.times.1;
-      run = run_on _ _ _ _ _ _ _ _ _ _ _ _ _ inv.run _ _ _ _ _ _ _ e.onward e.shut c.difference-rest.ensures c.union-stuck.ensures;
+      hours = e.hours;
+      kept = e.kept ∙ ap (λ b. tabled b n.earliest n.latest n.before n.after) inv.kept;
+      run = run_on _ _ _ _ _ _ _ _ _ _ _ _ _ inv.run _ _ _ _ _ _ _ (rw same at e.onward) (rw same at e.shut) c.difference-rest.ensures c.union-stuck.ensures;
     }
 
-pub returns-after-loop : goal.returns-after-loop
-returns-after-loop c =
-    let run = c.loop.invariant.run in
-    record { onward = run_onward _ _ _ _ _ _ _ _ _ _ _ _ _ run; shut = run_shut _ _ _ _ _ _ _ _ _ _ _ _ _ run }
+pub returns-after-loop-clause-onward : goal.returns-after-loop-clause-onward
+returns-after-loop-clause-onward c = run_onward _ _ _ _ _ _ _ _ _ _ _ _ _ c.loop.invariant.run
 
-pub returns-then-is_done : goal.returns-then-is_done
-returns-then-is_done c =
-    let run = c.loop.invariant.run in
-    record { onward = run_onward _ _ _ _ _ _ _ _ _ _ _ _ _ run; shut = run_shut _ _ _ _ _ _ _ _ _ _ _ _ _ run }
-
-pub overflow_step : goal.overflow_step
-overflow_step c = search (rules, c.loop-test.true)
-
-pub loop-smaller : goal.loop-smaller
-loop-smaller c = omega (arith, c.loop-test.true)
+pub returns-then-is_done-clause-onward : goal.returns-then-is_done-clause-onward
+returns-then-is_done-clause-onward c = run_onward _ _ _ _ _ _ _ _ _ _ _ _ _ c.loop.invariant.run

@@ -1,19 +1,14 @@
--- `engine_propagation::propagate` meets its contract: one turn after the other. The measure is the turns that are left. Assumes nothing.
-use borrow.Author.Rules.{rules}
-use Prim.Native.Nat.{◌≤◌, ◌-◌}
-use native.Mathlib.Omega.{arith}
-use Rattle.engine_sums.specs.Sums.{Times}
-use Rattle.engine_propagation.specs.Turns.{Run, run_none, run_on, run_onward, run_shut}
+-- `engine_propagation::propagate` meets its contract: one turn after the other. Assumes nothing.
+use Rattle.engine_detection.specs.Detection.{WindowsInRange}
+use Rattle.engine_propagation.specs.Turns.{TablesAlone, Run}
 use Rattle.engine_propagation.proofs.propagate.Given as goal
 
 abbrev pub invariant-loop : goal.invariant-loop
 invariant-loop l =
+    let b = l.initial.board in
+    let c = l.board in
     record {
-      counted : l.counter ≤ 65536;
-      early : Times l.earliest;
-      late : Times l.latest;
-      run : Run l.live l.rest l.valid l.lengths l.initial.earliest l.initial.latest l.initial.before l.initial.after l.earliest l.latest l.before l.after l.stuck;
+      hours : WindowsInRange c;
+      kept : TablesAlone b c;
+      run : Run l.marks.live l.rest l.marks.valid b.lengths b.earliest b.latest b.before b.after c.earliest c.latest c.before c.after l.stuck;
     }
-
-abbrev pub decreases-loop : goal.decreases-loop
-decreases-loop l = 65536 - l.counter

@@ -1,5 +1,4 @@
 -- `engine_propagation::turn_side` meets its contract: it is that of the push. Assumes nothing.
-use borrow.Author.Rules.{rules}
 use Rattle.engine_propagation.proofs.turn_side.Goals as goal
 
 pub returns : goal.returns

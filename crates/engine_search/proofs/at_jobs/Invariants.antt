@@ -1,17 +1,16 @@
--- `engine_search::at_jobs` meets its contract: where a job has been searched without a finding, R4 to R6 are settled there; the jobs that are
--- left are a word, which gets smaller. Assumes nothing.
-use Prim.Native.Nat.{◌<◌}
+-- `engine_search::at_jobs` meets its contract: where a job has been searched without a finding, R4 to R6 are settled there. Assumes nothing.
+use Rattle.std.proofs.Common.{◌≡◌, true, ◌<◌, ℕ}
+use Rattle.ground_sets.specs.Bit.{bit}
 use Rattle.paper_board.specs.declared.Board.{Board}
 use Rattle.paper_board.specs.Paper.Limits.{job_limit}
 use Rattle.paper_board.specs.Paper.View.{view}
+use Rattle.engine_job_rules.specs.JobSearched.{JobSettled}
 use Rattle.engine_search.specs.PairsWalk.{BoardRead, JobsLeft}
 use Rattle.engine_search.proofs.at_jobs.Given as goal
 
-abbrev pub invariant-loop-left : goal.invariant-loop-left
-invariant-loop-left l =
+abbrev pub invariant-loop-job : goal.invariant-loop-job
+invariant-loop-job l =
     (l.early < job_limit)
     × (l.late < job_limit)
-    × ((b : Board) → BoardRead b l.live l.valid l.earliest l.latest l.lengths l.before l.after → JobsLeft (view b) l.left)
-
-abbrev pub decreases-loop-left : goal.decreases-loop-left
-decreases-loop-left l = l.left
+    × ((b : Board) → BoardRead b l.fn.sets.live l.fn.sets.valid l.windows.earliest.now l.windows.latest.now l.windows.lengths.now l.arcs.before.now l.arcs.after.now
+    → JobsLeft (view b) l.job-iterator.left × ((k : ℕ) → bit l.done k ≡ true → JobSettled (view b) k))

@@ -1,11 +1,14 @@
 -- `engine_transitivity::join_through` meets its contract: one row after the other. Assumes nothing.
 use Rattle.paper_board.specs.BoardTests.Sets.{Subset}
-use Rattle.engine_arcs.specs.Arcs.{Sound}
+use Rattle.engine_arcs.specs.Arcs.{ArcsAlone, Sound}
 use Rattle.engine_transitivity.specs.Transitivity.{Through}
 use Rattle.engine_transitivity.proofs.join_through.Given as goal
 
-abbrev pub invariant-loop-left : goal.invariant-loop-left
-invariant-loop-left l = Subset l.left l.sources × Sound (Through l.through) l.initial.before l.initial.after l.before l.after
-
-abbrev pub decreases-loop-left : goal.decreases-loop-left
-decreases-loop-left l = l.left
+abbrev pub invariant-loop-from : goal.invariant-loop-from
+invariant-loop-from l =
+    let b = l.initial.board in
+    record {
+      left : Subset l.from-iterator.left l.sources;
+      kept : ArcsAlone b l.board;
+      run : Sound (Through l.through) b.before b.after l.board.before l.board.after;
+    }

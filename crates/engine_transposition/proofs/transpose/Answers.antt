@@ -1,5 +1,5 @@
--- `engine_transposition::transpose` meets its contract: its six rounds compose. Assumes nothing.
-use native.Mathlib.Omega.{arith}
+-- `engine_transposition::transpose` meets its contract: its six rounds compose.
+use Rattle.std.proofs.Common.{arith}
 use Rattle.engine_transposition.specs.Transpose.{masks, transposed}
 use Rattle.engine_transposition.proofs.transpose.Goals as goal
 

@@ -1,5 +1,5 @@
 -- `enter`: the answer to an entry and the board after it, for every board handed in and all numbers.
-use Rattle.std.specs.Prelude.{true, false, List, [], ◌∷◌, ℕ, ◌+◌, min}
+use Rattle.std.specs.Prelude.{true, false, List, [], ◌∷◌, ℕ, ◌+◌, min, Some, None, Ok, Err}
 use Rattle.std.proofs.Math.Option.{Option, none, some}
 use Rattle.paper_board.specs.declared.Board.{Board}
 use Rattle.paper_board.specs.declared.Refusal.{Refusal}
@@ -10,11 +10,10 @@ use Rattle.paper_board.specs.Paper.Parts.{with_books, with_tally}
 use Rattle.paper_rules.specs.Update.Updates.{update, append, ◌and_then◌}
 use Rattle.paper_closure.specs.Closure.{closure}
 use Rattle.paper_closure.specs.Passes.{passes}
-use Rattle.paper_entries.specs.declared.Answer.{Answer}
-use Rattle.paper_entries.specs.declared.Answer.TheVariants as Answers
 use Rattle.paper_entries.specs.declared.Entered.{Entered}
 use Rattle.paper_entries.specs.Paper.Entry.{Entry, addition, other, added_row, stated}
 use Rattle.paper_entries.specs.Paper.Checks.{checks, first_refusal}
+use Rattle.paper_entries.specs.Paper.Answers.{Answer}
 
 -- the facts shown, one after the other, or none where a mark would have to change
 unfoldable pub update_all : Board → List Fact → Option Board
@@ -36,12 +35,12 @@ counted b = with_books b (with_tally b.books (min (b.books.tally + 1) tally_limi
 
 -- acceptance by a board of n jobs; an addition "gives the job's number"
 abbrev pub acceptance : ℕ → Entry → Answer
-acceptance n (addition l e d m) = Answers.Added n
-acceptance n (other s) = Answers.Accepted
+acceptance n (addition l e d m) = Ok (Some n)
+acceptance n (other s) = Ok None
 
 -- "A refusal carries its number only and alters nothing"
 abbrev pub refused : Refusal → Board → Entered
-refused r b = record { answer = Answers.Refused r; board = b }
+refused r b = record { answer = Err r; board = b }
 
 -- what the closure says: acceptance as answer a; or refusal 8, and "number 8 adds one to the tally"
 abbrev pub concluded : Board → Answer → Option Board → Entered

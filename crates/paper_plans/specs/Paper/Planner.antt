@@ -1,5 +1,5 @@
 -- The planner's answer, for every board handed in and every budget.
-use Rattle.std.specs.Prelude.{true, false, cond, List, [], ◌∷◌, ℕ, leb, ℤ, pos, replicate, set}
+use Rattle.std.specs.Prelude.{true, false, cond, List, [], ◌∷◌, ℕ, leb, ℤ, pos, replicate, set, Ok, Err}
 use Rattle.std.proofs.Math.Option as Options
 use Rattle.ground_sets.specs.Bit.{with}
 use Rattle.paper_board.specs.declared.Board.{Board}
@@ -10,9 +10,9 @@ use Rattle.paper_board.specs.Paper.Tests.{valid}
 use Rattle.paper_closure.specs.Passes.{passes}
 use Rattle.paper_entries.specs.Paper.Entry.{number}
 use Rattle.paper_entries.specs.Paper.Checks.{budget_check, first_refusal}
-use Rattle.paper_plans.specs.declared.PlanAnswer.{PlanAnswer}
-use Rattle.paper_plans.specs.declared.PlanAnswer.TheVariants as Answers
+use Rattle.paper_plans.specs.declared.TriesEnd.TheVariants as Ends
 use Rattle.paper_plans.specs.declared.Planned.{Planned}
+use Rattle.paper_plans.specs.Paper.Answers.{PlanAnswer}
 use Rattle.paper_plans.specs.Paper.Lists.{range, keep}
 use Rattle.paper_plans.specs.Paper.Tries.{Ending, found, none, start_after, tries}
 
@@ -40,17 +40,17 @@ with_plan v a ps = record { answer = a; placed = placed_word ps; starts = start_
 -- "If this takes T tries and T is at most the budget, the answer is found or none with T; otherwise it is spent with the
 -- budget."
 abbrev pub planned_within : View → ℕ → Ending → Planned
-planned_within v budget (found t ps) = cond (leb t budget) (with_plan v (Answers.Found t) ps) (unplanned (Answers.Spent budget))
-planned_within v budget (none t) = cond (leb t budget) (unplanned (Answers.None t)) (unplanned (Answers.Spent budget))
+planned_within v budget (found t ps) = cond (leb t budget) (with_plan v (Ok (Ends.Found t)) ps) (unplanned (Ok (Ends.Spent budget)))
+planned_within v budget (none t) = cond (leb t budget) (unplanned (Ok (Ends.None t))) (unplanned (Ok (Ends.Spent budget)))
 
 -- refusals 0 and 9
 unfoldable pub plan : Board → ℤ → Planned
 plan b z =
     elim (passes b) [
-      | false ↦ unplanned (Answers.Refused Refused.Board)
+      | false ↦ unplanned (Err Refused.Board)
       | true ↦
           elim (first_refusal (budget_check z ∷ [])) [
-            | Options.some r ↦ unplanned (Answers.Refused r)
+            | Options.some r ↦ unplanned (Err r)
             | Options.none ↦ planned_within (view b) (number z) (tries (view b) (valid_jobs (view b)))
           ]
     ]

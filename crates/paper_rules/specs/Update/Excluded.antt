@@ -27,3 +27,6 @@ module _ (b : Board) (j : ℕ) where
   unfolding exclude
   exclude_undecided within set c job one two e struck =
       rw (ne_eqb _ _ one, ne_eqb _ _ two) (ap some (sym (struck ∙ ap (strike b) e ∙ strike_one b within j job)))
+
+-- the three marks
+pub ruleset excluding = (exclude_valid, exclude_invalid, exclude_undecided)

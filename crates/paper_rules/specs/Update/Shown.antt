@@ -101,3 +101,6 @@ module _ (b : Board) where
     pub invalid_shown : (row_of b j).mark ≡ 2 → update b (is_invalid j) ≡ some b
     unfolding update exclude
     invalid_shown e = rw e
+
+-- a fact put on a board: what it shows already, and what it doesn't
+pub ruleset showing = (arc_shown_before, arc_new, bound_shown_before, bound_new, valid_shown, invalid_shown)

@@ -1,13 +1,11 @@
 -- All jobs of a set become invalid at once: "An invalid job holds length 0, E 0, D 0 and no arcs". What it means is in
 -- StrikeLaws; here, that the code does it place by place.
-use Rattle.std.specs.Prelude.{◌≡◌, refl, true, false, cond, ℕ, ◌+◌, pos, get_or}
+use Rattle.std.specs.Prelude.{◌≡◌, refl, cond, ℕ, ◌+◌, pos}
 use Rattle.std.proofs.Common.{ap, ◌∙◌}
-use Rattle.std.proofs.Math.ListN as lists
-use Rattle.std.proofs.lemmas.List.{set-get_or}
 use Rattle.ground_sets.specs.Bit.{bit, difference}
 use Rattle.paper_board.specs.declared.Board.{Board}
 use Rattle.paper_board.specs.Paper.Limits.{job_limit}
-use Rattle.paper_rules.specs.Update.ArraysWithin.{filled}
+use Rattle.paper_board.specs.Paper.Parts.{filled}
 use Rattle.paper_rules.specs.Update.PartlyChanged.{changed, partly, partly_more}
 
 -- what stands at place k, where the jobs of the set get `blank`
@@ -43,26 +41,7 @@ strike_below b set n =
 abbrev pub strike : Board → ℕ → Board
 strike b set = strike_below b set b.jobs
 
--- ---- the code: one place, and a loop over the jobs
-
-module _ (b : Board) (set k : ℕ) where
-  pub at_member : bit set k ≡ true
-      → filled b
-      (lists.set b.lengths k (pos 0))
-      (lists.set b.earliest k (pos 0))
-      (lists.set b.latest k (pos 0))
-      (lists.set b.marks k 2)
-      (lists.set b.after k 0)
-      (lists.set b.before k 0)
-      ≡ strike_at b set k
-  at_member e = rw e
-
-  -- to store again what is there changes nothing
-  pub at_other : (after before : ℕ) → bit set k ≡ false → after ≡ difference job_limit (get_or b.after k 0) set
-      → before ≡ difference job_limit (get_or b.before k 0) set
-      → filled b b.lengths b.earliest b.latest b.marks (lists.set b.after k after) (lists.set b.before k before)
-      ≡ strike_at b set k
-  at_other after before e onward into = rw (e, ← onward, ← into) (simp set-get_or)
+-- ---- the code: a loop over the jobs
 
 pub none_below : (b : Board) (set : ℕ) → b ≡ strike_below b set 0
 unfolding strike_below partly
@@ -80,3 +59,5 @@ one_below b c d set k e step = step ∙ ap (λ x. strike_at x set k) e ∙ more
         (partly_more (cleared 2 set) k b.marks 0 i)
         (partly_more (thinned set) k b.after 0 i)
         (partly_more (thinned set) k b.before 0 i)
+
+pub ruleset striking = (none_below, one_below)

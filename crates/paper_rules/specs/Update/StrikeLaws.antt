@@ -18,7 +18,7 @@ use Rattle.paper_board.specs.BoardTests.Ranges.{after_fits, before_fits}
 use Rattle.paper_rules.specs.Update.Updates.{isolate, invalidate}
 use Rattle.paper_rules.specs.Update.Stores.{place}
 use Rattle.paper_rules.specs.Update.StoreWithin.{invalidate_within}
-use Rattle.paper_rules.specs.Update.ArraysWithin.{filled}
+use Rattle.paper_board.specs.Paper.Parts.{filled}
 use Rattle.paper_rules.specs.Update.PartlyChanged.{partly, length_partly, get_d_changed, get_d_kept, partly_keeps, partly_is, partly_put}
 use Rattle.paper_rules.specs.Update.Strike.{cleared, thinned, strike_below, strike}
 

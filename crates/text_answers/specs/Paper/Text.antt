@@ -1,5 +1,5 @@
 -- A whole text: what each line gives, the bytes of all answers, and the board at the end.
-use Rattle.std.specs.Prelude.{ℕ, leb, ℤ, length, cond, List, [], ◌∷◌, ◌++◌}
+use Rattle.std.specs.Prelude.{ℕ, leb, ℤ, length, cond, Option, Some, None, List, [], ◌∷◌, ◌++◌}
 use Rattle.paper_board.specs.declared.Board.{Board}
 use Rattle.paper_board.specs.declared.Refusal.TheVariants as Refused
 use Rattle.paper_board.specs.Paper.Refusals.{number_of}
@@ -13,7 +13,7 @@ use Rattle.paper_entries.specs.Paper.Replies.{Reply, RowReply, PairReply, no_num
 use Rattle.paper_plans.specs.Paper.PlanReply.{PlanReply, plan_reply_of}
 use Rattle.paper_plans.specs.Paper.Planner.{plan}
 use Rattle.text_forms.specs.declared.Form.{Form}
-use Rattle.text_forms.specs.declared.Form.TheVariants.{Entry, Row, Pair, Plan, Tally, Unknown}
+use Rattle.text_forms.specs.declared.Form.TheVariants.{Entry, Row, Pair, Plan, Tally}
 use Rattle.text_forms.specs.Paper.Forms.{form_of}
 use Rattle.text_forms.specs.Paper.Lines.{Line, ended, unended, lines_of}
 use Rattle.text_replies.specs.Paper.ReplyTexts.{entry_text, row_text, pair_text, plan_text, tally_text}
@@ -48,13 +48,14 @@ entered e = record { reply = to_entry (reply_of e.answer); board = e.board }
 abbrev pub formless : Board → Answered
 formless b = looked b (to_entry (no_number (number_of Refused.Form)))
 
-unfoldable pub carried_out : Board → Form → Answered
-carried_out b (Entry e) = entered (enter b (entry_of e))
-carried_out b (Row j) = looked b (to_row j (row_reply_of (row b j)))
-carried_out b (Pair x y) = looked b (to_pair (pair_reply_of (pair b x y)))
-carried_out b (Plan n) = looked b (to_plan (plan_reply_of (plan b n)))
-carried_out b Tally = looked b (to_tally b.books.tally)
-carried_out b Unknown = formless b
+-- a line that is this form, or none
+unfoldable pub carried_out : Board → Option Form → Answered
+carried_out b (Some (Entry e)) = entered (enter b (entry_of e))
+carried_out b (Some (Row j)) = looked b (to_row j (row_reply_of (row b j)))
+carried_out b (Some (Pair x y)) = looked b (to_pair (pair_reply_of (pair b x y)))
+carried_out b (Some (Plan n)) = looked b (to_plan (plan_reply_of (plan b n)))
+carried_out b (Some Tally) = looked b (to_tally b.books.tally)
+carried_out b None = formless b
 
 -- "An empty line, or a last line without its line feed, gets 10."
 abbrev pub answered : Board → Line → Answered

@@ -1,12 +1,11 @@
 -- "one bracket form a line": the forms of the text, and the form that a line is.
-use Rattle.std.specs.Prelude.{ℕ, ℤ, pos, get_or, List, [], ◌∷◌}
+use Rattle.std.specs.Prelude.{ℕ, ℤ, pos, get_or, Option, Some, None, List, [], ◌∷◌}
 use Prim.Native.String.{String}
-use Rattle.std.proofs.Math.Option.{none, some}
 use Rattle.text_decimals.specs.Bytes.{bytes}
 use Rattle.text_formats.specs.Format.{scan}
 use Rattle.paper_entries.specs.declared.Entry.TheVariants.{Addition, Arc, Mark, Cut}
 use Rattle.text_forms.specs.declared.Form.{Form}
-use Rattle.text_forms.specs.declared.Form.TheVariants.{Entry, Row, Pair, Plan, Tally, Unknown}
+use Rattle.text_forms.specs.declared.Form.TheVariants.{Entry, Row, Pair, Plan, Tally}
 
 -- how a form is written, `#` for a number, and what it says with its numbers: `n 0` is the first
 pub record FormShape : Type 0 where
@@ -32,10 +31,10 @@ shapes =
 abbrev pub said : FormShape → List ℤ → Form
 said s zs = s.form (λ k. get_or zs k (pos 0))
 
--- the first of the forms that a line is written as
-unfoldable pub first_of : List FormShape → List ℕ → Form
-first_of [] line = Unknown
-first_of (s ∷ ss) line = elim (scan s.format line) [ none ↦ first_of ss line | some zs ↦ said s zs ]
+-- the first of the forms that a line is written as, if any
+unfoldable pub first_of : List FormShape → List ℕ → Option Form
+first_of [] line = None
+first_of (s ∷ ss) line = elim (scan s.format line) [ None ↦ first_of ss line | Some zs ↦ Some (said s zs) ]
 
-abbrev pub form_of : List ℕ → Form
+abbrev pub form_of : List ℕ → Option Form
 form_of line = first_of shapes line

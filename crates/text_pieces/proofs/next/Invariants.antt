@@ -1,14 +1,13 @@
--- `text_pieces::next` ends, and keeps what was written and what remains.
-use mathlib.Core.Path.{◌≡◌}
-use lib.ListN.{length}
+-- `next` ends, and keeps what was written and what remains.
+use Rattle.std.proofs.Common.{◌≡◌, length}
 use Rattle.text_pieces.specs.PieceState.{PieceState}
 use Rattle.text_forms.specs.Paper.Lines.{lines_of}
 use Rattle.text_answers.specs.Paper.Text.{serve}
 use Rattle.text_pieces.proofs.next.Given as goal
 
-abbrev pub invariant-loop-rest : goal.invariant-loop-rest
-invariant-loop-rest l =
-    (length l.out ≡ length l.initial.out) × PieceState (serve l.initial.board (lines_of l.text)) l.text l.out l.board l.rest l.at
+abbrev pub invariant-loop-page : goal.invariant-loop-page
+invariant-loop-page l =
+    (l.page.capacity ≡ l.fn.page.capacity) × PieceState (serve l.initial.board (lines_of l.text)) l.text l.page.text l.board l.rest
 
-abbrev pub decreases-loop-rest : goal.decreases-loop-rest
-decreases-loop-rest l = length l.rest
+abbrev pub decreases-loop-page : goal.decreases-loop-page
+decreases-loop-page l = length l.rest

@@ -1,53 +1,44 @@
--- `text_scans::scan` meets its contract: each byte of the format keeps the state of the loop. Assumes nothing.
-use mathlib.Core.Path.{sym, ◌∙◌}
-use native.Mathlib.Omega.{arith}
-use mir.Syntax.{w32}
-use mir.ValLaws.{to_z-of_z}
+-- `scan` meets its contract: each byte of the format keeps the state of the loop.
+use Rattle.std.proofs.Common.{sym, ◌∙◌}
+use Rattle.std.specs.Int.{w32}
+use Rattle.std.proofs.lemmas.Int.{to_z-of_z}
 use Rattle.text_numerals.specs.NumberRead.{read_number}
 use Rattle.text_numerals.specs.NaturalRead.{short_fits}
-use Rattle.text_scans.specs.ScanState.{at_start, place_left, number_taken, number_missing, byte_taken, byte_missing, at_end, as_parts}
-use Rattle.text_scans.specs.Scan.{starts_some}
+use Rattle.text_scans.specs.ScanState.{number_taken, number_missing, byte_taken, other_byte, no_byte, at_end}
 use Rattle.text_scans.proofs.scan.Goals as goal
+use Rattle.text_scans.proofs.scan.Goals.{then-byte-eq-NUMBER_MARK+in_ok-length, else-byte-eq-NUMBER_MARK+in_ok-first+else-first-byte}
 
-pub loop-f-init : goal.loop-f-init
-loop-f-init c = at_start _ _ c.requires
+pub returns-in_err-length : goal.returns-in_err-length
+returns-in_err-length g c =
+    c.from_residual.ensures
+    ∙ number_missing _ _ _ _ _ _ _ c.loop-byte.invariant c.loop-byte-test.true c.if-byte-eq-NUMBER_MARK.true (sym c.number.ensures ∙ c.in_err-length.was)
 
-pub returns-in_default : goal.returns-in_default
-returns-in_default c =
-    let none = sym c.number.ensures ∙ c.in_default.is in
-    c.unmatched.ensures ∙ number_missing _ _ _ _ _ _ c.loop-f.invariant c.loop-f-test.true c.if-f-eq-NUMBER_MARK.true none
+pub slice_bounds-rest-count : goal.slice_bounds-rest-count
+slice_bounds-rest-count g c = (read_number _ _ _ (sym c.number.ensures ∙ c.in_ok-length.was)).within
 
-pub bounds-numbers-count : goal.bounds-numbers-count
-bounds-numbers-count c = place_left _ _ _ _ _ _ c.loop-f.invariant c.loop-f-test.true c.if-f-eq-NUMBER_MARK.true
+pub slice_bounds-rest-start : goal.slice_bounds-rest-start
+slice_bounds-rest-start g c = (read_number _ _ _ (sym c.number.ensures ∙ c.in_ok-length.was)).within
 
-pub slice_bounds-t-count : goal.slice_bounds-t-count
-slice_bounds-t-count c = (read_number _ _ _ (sym c.number.ensures ∙ c.in-Number.is)).within
+pub returns-in_err-first : goal.returns-in_err-first
+returns-in_err-first g c =
+    c.from_residual-in_err-first.ensures
+    ∙ no_byte _ _ _ _ _ _ _ c.loop-byte.invariant c.loop-byte-test.true c.if-byte-eq-NUMBER_MARK.false c.in_err-first.ensures.cases
 
-pub slice_bounds-t-start : goal.slice_bounds-t-start
-slice_bounds-t-start c = (read_number _ _ _ (sym c.number.ensures ∙ c.in-Number.is)).within
+pub returns-then-first-byte : goal.returns-then-first-byte
+returns-then-first-byte g c =
+    other_byte _ _ _ _ _ _ _ c.loop-byte.invariant c.loop-byte-test.true c.if-byte-eq-NUMBER_MARK.false _ _ c.in_ok-first.ensures.cases.0 c.if-first-byte.true
 
-pub loop-f-preserved-then-f-eq-NUMBER_MARK : goal.loop-f-preserved-then-f-eq-NUMBER_MARK
-loop-f-preserved-then-f-eq-NUMBER_MARK c =
-    let found = sym c.number.ensures ∙ c.in-Number.is in
-    rw (to_z-of_z w32 c.in-Number.value (short_fits c.in-Number.value (read_number _ _ _ found).short))
-    (as_parts _ _ c.loop-f.f.now c.loop-f.t.now _ _ 1 c.in-Number.length
-    (number_taken _ _ _ _ _ _ c.loop-f.invariant c.loop-f-test.true c.if-f-eq-NUMBER_MARK.true c.in-Number.length c.in-Number.value found))
-
-pub returns-then-not-starts_with : goal.returns-then-not-starts_with
-returns-then-not-starts_with c =
-    c.unmatched-then-not-starts_with.ensures
-    ∙ byte_missing _ _ _ _ _ _ c.loop-f.invariant c.loop-f-test.true c.if-f-eq-NUMBER_MARK.false (sym c.starts_with.ensures ∙ c.if-not-starts_with.true)
-
-pub slice_bounds-t-count-else-f-eq-NUMBER_MARK : goal.slice_bounds-t-count-else-f-eq-NUMBER_MARK
-slice_bounds-t-count-else-f-eq-NUMBER_MARK c = starts_some _ _ (sym c.starts_with.ensures ∙ c.if-not-starts_with.false)
-
-pub slice_bounds-t-start-else-f-eq-NUMBER_MARK : goal.slice_bounds-t-start-else-f-eq-NUMBER_MARK
-slice_bounds-t-start-else-f-eq-NUMBER_MARK c = starts_some _ _ (sym c.starts_with.ensures ∙ c.if-not-starts_with.false)
-
-pub loop-f-preserved : goal.loop-f-preserved
-loop-f-preserved c =
-    as_parts _ _ c.loop-f.f.now c.loop-f.t.now _ _ 1 1
-    (byte_taken _ _ _ _ _ _ c.loop-f.invariant c.loop-f-test.true c.if-f-eq-NUMBER_MARK.false (sym c.starts_with.ensures ∙ c.if-not-starts_with.false))
+pub loop-byte-preserved : goal.loop-byte-preserved
+loop-byte-preserved g c =
+    elim c.if-byte-eq-NUMBER_MARK.branch [
+      | then-byte-eq-NUMBER_MARK+in_ok-length w ↦
+          let read = sym w.number.ensures ∙ w.in_ok-length.was in
+          rw (w.rest-is, w.numbers-is, w.count-is, to_z-of_z w32 w.in_ok-length.field-0.value (short_fits w.in_ok-length.field-0.value (read_number _ _ _ read).short))
+          (number_taken _ _ _ _ _ _ _ c.loop-byte.invariant c.loop-byte-test.true w.if-byte-eq-NUMBER_MARK.true _ _ read)
+      | else-byte-eq-NUMBER_MARK+in_ok-first+else-first-byte w ↦
+          rw (w.rest-is, w.numbers-is, w.count-is)
+          (byte_taken _ _ _ _ _ _ _ c.loop-byte.invariant c.loop-byte-test.true w.if-byte-eq-NUMBER_MARK.false _ _ w.in_ok-first.ensures.cases.0 w.if-first-byte.false)
+    ]
 
 pub returns : goal.returns
-returns c = c.whole.ensures ∙ at_end _ _ _ _ _ _ c.loop-f.invariant (omega (arith, c.loop-f-test.false))
+returns g c = c.then_some.ensures ∙ rw c.is_empty.ensures (at_end _ _ _ _ _ _ _ c.loop-byte.invariant c.loop-byte-test.false)

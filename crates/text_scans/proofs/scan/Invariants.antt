@@ -1,10 +1,7 @@
--- `text_scans::scan` meets its contract: each byte of the format keeps the state of the loop. Assumes nothing.
-use lib.ListN.{length}
+-- `scan` meets its contract: each byte of the format keeps the state of the loop.
+use Rattle.std.proofs.Common.{drop}
 use Rattle.text_scans.specs.ScanState.{ScanState}
 use Rattle.text_scans.proofs.scan.Given as goal
 
-abbrev pub invariant-loop-f : goal.invariant-loop-f
-invariant-loop-f l = ScanState l.format l.text l.f l.t l.numbers l.count
-
-abbrev pub decreases-loop-f : goal.decreases-loop-f
-decreases-loop-f l = length l.f
+abbrev pub invariant-loop-byte : goal.invariant-loop-byte
+invariant-loop-byte g l = ScanState g.row.N l.format l.text (drop l.byte-index l.format) l.rest l.numbers l.count

@@ -1,0 +1,2 @@
+-- What lies beyond the jobs on a side.
+pub mod WordsOn
