@@ -1,6 +1,5 @@
 // The calls for a host in another language that keeps the board: they alter it where it is kept, or look at it there, and their replies are
-// structs of numbers. Any board may be handed in; check 0 is among their checks. The crate is the static library; C needs a
-// function for each name.
+// structs of numbers. Any board may be handed in; check 0 is among their checks. C needs a function for each name.
 #![tactic(auto)]
 
 ghost use Rattle.std.specs.Prelude.{◌≡◌, true};
@@ -19,8 +18,8 @@ use call_reply_numbers::{PairReplyNumbers, PlanReplyNumbers, ReplyNumbers, RowRe
 use paper_board::Board;
 use paper_entries::Entry;
 
-mod unchecked;
-mod version;
+pub mod unchecked;
+pub mod version;
 
 // A board without jobs whose tally starts at 0.
 #[unsafe(no_mangle)]

@@ -1,13 +1,14 @@
 -- How the planner's loop ends: the empty list is exhausted, a try beyond the budget is due, or all valid jobs are placed. Each time
 -- the answer is the one that the tries give.
-use Rattle.std.specs.Prelude.{◌≡◌, ◌≢◌, true, ℕ, ◌+◌, ◌<◌, ℤ, length, Ok}
-use Rattle.std.proofs.Math.Path.{ap}
+use Rattle.std.specs.Prelude.{◌≡◌, ◌≢◌, true, ℕ, ◌+◌, ◌<◌, ◌≤◌, ℤ, length, Ok}
+use Rattle.std.proofs.Math.Path.{refl, ap}
 use Rattle.std.proofs.Common.{sym, ◌∙◌, arith}
 use Rattle.std.proofs.Math.Bool.{false}
 use mathlib.Core.List.{List, [], ◌∷◌}
 use Rattle.ground_sets.specs.Bit.{bit, width}
-use Rattle.ground_walks.specs.Takes.{Takes}
+use Rattle.ground_walks.specs.Takes.{Next}
 use Rattle.ground_sets.specs.BitLaws.{bit_zero, bit_ext}
+use Rattle.ground_walks.specs.Walk.{trailing_lowest, takes}
 use Rattle.ground_arithmetic.specs.Bools.{is_true, refuted, same_tests}
 use Rattle.paper_board.specs.declared.Board.{Board}
 use Rattle.paper_board.specs.Paper.View.{view}
@@ -22,7 +23,7 @@ use Rattle.paper_plans.proofs.PlanLaws.{placed_bit, found_in_budget, none_in_bud
 use Rattle.paper_plans.specs.SearchReaches.{last_and_before}
 use Rattle.call_placements.specs.declared.stack.Placed.{Placed}
 use Rattle.call_placements.specs.Stack.{jobs_of, members, back, tried_all, try_due, all_found}
-use Rattle.call_placements.specs.Waiting.{order, waiting_count, waiting_members, no_members, some_waits, least_first}
+use Rattle.call_placements.specs.Waiting.{order, waiting_fits, waiting_count, waiting_members, no_members, some_waits, least_first}
 use Rattle.call_placements.specs.PlannerState.{Placements, ending, PlannerState}
 
 -- the jobs of the stack are valid
@@ -33,17 +34,13 @@ stacked b (one ∷ below) p k a =
 
 module _ (b : Board) (h : Within b) (placed : List Placed) (w left : ℕ) (free : ℤ) (t budget : ℕ)
     (s : PlannerState b placed w left free t budget) where
+  -- no more jobs are placed than the board has places
+  pub deep : length placed + waiting_count b (jobs_of placed) ≤ job_limit
+  deep = omega (arith, s.counted, kept_at_most (valid (view b)) (range 0 b.jobs), range_length 0 b.jobs, h.limits.jobs)
+
   -- a job more has its place
   pub room : w ≢ 0 → length placed < job_limit
-  room waits =
-      omega (
-        arith,
-        s.counted,
-        (some_waits b w _ s.waiting waits).1,
-        kept_at_most (valid (view b)) (range 0 b.jobs),
-        range_length 0 b.jobs,
-        h.limits.jobs,
-      )
+  room waits = omega (arith, deep, (some_waits b w _ s.waiting waits).1)
 
   pub exhausted : w ≢ 0 → left ≡ 0 → placed ≡ [] → unplanned (Ok (Ends.None t)) ≡ planned_within (view b) budget (ending b)
   unfolding back add
@@ -54,10 +51,12 @@ module _ (b : Board) (h : Within b) (placed : List Placed) (w left : ℕ) (free 
       let whole : ending b ≡ none t = now ∙ ap none (omega arith) in
       rw whole (sym (none_in_budget (view b) budget t s.affordable))
 
-  pub overspent : w ≢ 0 → {j rest : ℕ} → Takes width false left j rest → t ≡ budget
-      → unplanned (Ok (Ends.Spent budget)) ≡ planned_within (view b) budget (ending b)
-  overspent waits taken all =
+  pub overspent : w ≢ 0 → left ≢ 0 → t ≡ budget → unplanned (Ok (Ends.Spent budget)) ≡ planned_within (view b) budget (ending b)
+  unfolding Next
+  overspent waits some all =
       let ps = jobs_of placed in
+      let fits = waiting_fits b h left ps s.untried in
+      let taken = takes width false left _ _ fits (trailing_lowest width left some fits) refl in
       let (n, count) = some_waits b w ps s.waiting waits in
       let now = try_due (view b) (order b) (ending b) t n ps left _ (rw count at s.so_far) _ _ (least_first b ps s.untried taken) in
       rw (now, all) (sym (beyond_budget (view b) budget _))

@@ -3,9 +3,12 @@
 
 ghost use Rattle.std.specs.Prelude.{◌≡◌, true};
 ghost use Rattle.std.proofs.Math.Option.{some};
+ghost use Rattle.paper_board.specs.declared.Board as boards;
 ghost use Rattle.paper_board.specs.Paper.Limits.{Within};
+ghost use Rattle.paper_board.specs.Paper.Parts.{filled};
+ghost use Rattle.paper_rules.specs.Update.Alone.{ArraysAlone};
 ghost use Rattle.paper_rules.specs.Update.Possibly.{possibly};
-ghost use Rattle.call_statements.specs.Stated.{raw_of, Storable, HavePlaces};
+ghost use Rattle.call_statements.specs.Stated.{raw_of, grown, Storable, HavePlaces};
 
 use call_statements::Stated;
 use engine_agenda::Agenda;
@@ -17,7 +20,7 @@ use paper_board::Board;
 #[tactic(auto, using(call_statements::specs::Stated::shown_facts))]
 pub fn is_shown(board: &Board, stated: Stated) -> bool
     requires { HavePlaces stated }
-    ensures { Within board.now → result ≡ true → raw_of board.now stated ≡ some board.now }
+    ensures { (b : boards.Board) → let c = filled b b.lengths board.now.earliest board.now.latest board.now.marks board.now.after b.before in Within c → result ≡ true → raw_of c stated ≡ some c }
 {
     match stated {
         Stated::Row { .. } => false,
@@ -28,12 +31,13 @@ pub fn is_shown(board: &Board, stated: Stated) -> bool
     }
 }
 
-// Puts it on the board, and gives what propagation has to look at first; or none, where a mark would have to change, and then what is left of
-// the board is of no account. Nothing is promised of what is due: whatever comes first, the closure is the same.
+// Puts it on the board, and gives what propagation has to look at first; or none, where a mark would have to change, and then the board's
+// arrays are of no account. Nothing is promised of what is due: whatever comes first, the closure is the same.
 #[tactic(auto, using(call_statements::specs::Stated::put_facts))]
 pub fn state(board: &mut Board, stated: Stated) -> Option<Agenda>
     requires { Within board.old × Storable board.old.jobs stated }
-    ensures { raw_of board.old stated ≡ possibly result board.new }
+    ensures kept { ArraysAlone (grown board.old stated) board.new }
+    ensures shown { raw_of board.old stated ≡ possibly result board.new }
 {
     match stated {
         Stated::Row {

@@ -1,5 +1,5 @@
 -- What an entry states: the board that shows it, nothing inferred yet; and when the code can put it there.
-use Rattle.std.specs.Prelude.{◌≡◌, refl, List, [], ◌∷◌, ℕ, suc, ◌<◌, ◌≤◌, ℤ}
+use Rattle.std.specs.Prelude.{◌≡◌, refl, List, [], ◌∷◌, ℕ, suc, ◌<◌, ◌≤◌, ℤ, set}
 use Rattle.std.proofs.Common.{subst, ⊎_elim}
 use Rattle.std.proofs.Math.Path.{subst⁻¹}
 use mathlib.Core.List.Memᴰ
@@ -8,6 +8,7 @@ use Rattle.paper_board.specs.declared.Board.{Board}
 use Rattle.paper_board.specs.Paper.Facts.{Fact, AboutJobs}
 use Rattle.paper_board.specs.Paper.View as Rows
 use Rattle.paper_board.specs.Paper.Limits.{job_limit, Fits, Within}
+use Rattle.paper_board.specs.Paper.Parts.{with_jobs}
 use Rattle.paper_board.specs.Paper.Values.{fact_of}
 use Rattle.paper_rules.specs.Update.Updates.{append, update, ◌and_then◌}
 use Rattle.paper_rules.specs.Update.Extension.{Extends, HasRow, Updated}
@@ -19,6 +20,7 @@ use Rattle.paper_entries.proofs.Allowed.{AllAboutJobs}
 use Rattle.paper_entries.specs.ShowsEntry.{HoldAll}
 use Rattle.paper_entries.proofs.RawShown.{updated_all}
 use Rattle.paper_entries.specs.Paper.Enter.{update_all}
+use Rattle.paper_board.specs.Paper.Parts as parts
 use Rattle.call_statements.specs.declared.Stated.{Stated}
 use Rattle.call_statements.specs.declared.Stated.TheVariants.{Row, One, Two}
 
@@ -30,6 +32,16 @@ abbrev pub raw_of : Board → Stated → Option Board
 raw_of b (Row length earliest latest mark) = some (append b (stated_row length earliest latest mark))
 raw_of b (One f) = update_all b (fact_of f ∷ [])
 raw_of b (Two f g) = update_all b (fact_of f ∷ fact_of g ∷ [])
+
+-- a row makes one job more
+abbrev pub jobs_with : ℕ → Stated → ℕ
+jobs_with n (Row length earliest latest mark) = suc n
+jobs_with n (One f) = n
+jobs_with n (Two f g) = n
+
+-- the board b with the number of jobs that there are with what is stated
+abbrev pub grown : Board → Stated → Board
+grown b s = with_jobs b (jobs_with b.jobs s)
 
 -- there is a place for the row, which is within its limits, and the facts are about jobs of the board
 abbrev pub Storable : ℕ → Stated → Type 0
@@ -77,7 +89,18 @@ pub two_shown : (b : Board) (f g : Fact) → update b f ≡ some b → update b 
 unfolding update_all ◌and_then◌
 two_shown b f g e d = rw (e, d)
 
+-- ---- a row put at the first place without a job
+
+pub row_stated : (b : Board) (length start end : ℤ) (mark : ℕ)
+    → raw_of b (Row length start end mark)
+    ≡ some (parts.filled (parts.with_jobs b (suc b.jobs)) (set b.lengths b.jobs length) (set b.earliest b.jobs start) (set b.latest b.jobs end) (set b.marks b.jobs mark) b.after b.before)
+row_stated b length start end mark = refl
+
 -- ---- facts put on the board
+
+-- the board that a fact leads to is within its limits
+pub step_within : (b c : Board) (f : Fact) → Within b → AboutJobs b.jobs f → update b f ≡ some c → Within c
+step_within b c f within known e = (subst (Updated b f) e (updated b within f known)).more.within
 
 pub one_fact : (b : Board) (f : Fact) → update_all b (f ∷ []) ≡ update b f
 unfolding update_all ◌and_then◌
@@ -100,7 +123,7 @@ second_fact b c f g e = rw e (one_fact c g)
 pub first_leaves : (b c : Board) (f g : Fact) → Within b → AboutJobs b.jobs f → AboutJobs b.jobs g → update b f ≡ some c → Within c × AboutJobs c.jobs g
 first_leaves b c f g within known other e =
     let step = subst (Updated b f) e (updated b within f known) in
-    (step.more.within, subst⁻¹ (λ n. AboutJobs n g) step.more.jobs other)
+    (step_within b c f within known e, subst⁻¹ (λ n. AboutJobs n g) step.more.jobs other)
 
 pub ruleset shown_facts = (one_shown, two_shown)
 

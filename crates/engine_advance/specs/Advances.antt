@@ -9,7 +9,7 @@ use Rattle.ground_sets.specs.Bit.{bit, intersection, difference, set_of}
 use Rattle.ground_walks.specs.Takes.{Lowest}
 use Rattle.ground_sets.specs.BitLaws.{bit_zero, bit_intersection, bit_difference, bit_set_of, bit_ext, bits_bound}
 use Rattle.ground_walks.specs.Walk.{trailing_lowest}
-use Rattle.ground_arithmetic.specs.Bools.{and_parts, refuted}
+use Rattle.ground_arithmetic.specs.Bools.{and_parts, is_false, refuted}
 use Rattle.paper_board.specs.declared.Board.{Board}
 use Rattle.paper_board.specs.Paper.View.{Live, Valid, view, row_of}
 use Rattle.paper_board.specs.Paper.Limits.{job_limit, Within}
@@ -88,6 +88,10 @@ module _ (start end : Board) (within : Within start) (lives valids : ℕ)
   gone : AllGone start stuck
   gone = shut start refl begun
 
+  -- those that can't stay are jobs of the board
+  stuck_fits : stuck < 2 ^ job_limit
+  stuck_fits = bits_bound job_limit stuck λ k l. is_false (bit stuck k) λ e. omega (arith, (gone.gone k e).0.0, within.limits.jobs)
+
   -- none of those that can't stay is valid
   undecided : intersection stuck valids ≡ 0 → (x : ℕ) → bit stuck x ≡ true → (row_of end x).mark ≢ 1
   undecided apart x e one =
@@ -114,14 +118,14 @@ module _ (start end : Board) (within : Within start) (lives valids : ℕ)
           gone_valid start stuck x gone out (valids_are x valid)
 
   -- others can't, and are struck out
-  pub advanced_struck : intersection stuck valids ≡ 0 → stuck < 2 ^ job_limit → (rest : ℕ) → rest ≡ difference job_limit lives stuck
+  pub advanced_struck : intersection stuck valids ≡ 0 → (rest : ℕ) → rest ≡ difference job_limit lives stuck
       → (c : Board) → c ≡ strike end stuck → Derived start c × (rest ≡ unmarked c.jobs c.marks 2) × (valids ≡ marked c.jobs c.marks 1)
   unfolding strike_below
-  advanced_struck apart width rest e c is =
+  advanced_struck apart rest e c is =
       let struck : Derived start (strike end stuck) =
       struck_all start end led stuck gone (undecided apart) (λ x e two. (gone.gone x e).0.1 (rw kept at two)) in
       rw is (
         struck,
-        e ∙ ap (λ w. difference job_limit w stuck) live_end ∙ sym (struck_live end led.more.within stuck width),
+        e ∙ ap (λ w. difference job_limit w stuck) live_end ∙ sym (struck_live end led.more.within stuck stuck_fits),
         valid_end ∙ sym (struck_valid end led.more.within stuck (ap (intersection stuck) (sym valid_end) ∙ apart)),
       )

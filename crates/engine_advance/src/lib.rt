@@ -2,6 +2,7 @@
 #![tactic(auto)]
 
 ghost use Rattle.paper_board.specs.Paper.Limits.{Within};
+ghost use Rattle.paper_rules.specs.Update.Alone.{ArraysAlone};
 ghost use Rattle.engine_advance.specs.Advances.{Advances};
 
 use engine_agenda::Agenda;
@@ -14,7 +15,8 @@ use paper_board::Board;
 // valid job can't stay: that is a contradiction.
 pub fn advance(board: &mut Board, due: Agenda) -> Option<Marks>
     requires { Within board.old }
-    ensures { Advances board.old result board.new }
+    ensures kept { ArraysAlone board.old board.new }
+    ensures advances { Advances board.old result board.new }
 {
     let marks = Marks::of(board);
     let stuck = propagate(board, marks, due);

@@ -4,14 +4,17 @@
 ghost use Rattle.std.specs.Prelude.{◌≡◌, ◌<◌, get_or, set};
 ghost use Rattle.std.proofs.Math.Option.{some};
 ghost use Rattle.ground_sets.specs.Bit.{with};
+ghost use Rattle.paper_board.specs.declared.Board as boards;
 ghost use Rattle.paper_board.specs.Paper.Limits.{job_limit, Within};
 ghost use Rattle.paper_board.specs.Paper.Facts.{is_arc};
+ghost use Rattle.paper_board.specs.Paper.Parts.{filled};
 ghost use Rattle.paper_rules.specs.Update.Updates as updates;
 ghost use Rattle.paper_rules.specs.Update.Shown.{arc_shown};
+ghost use Rattle.engine_arcs.specs.Arcs.{ArcsAlone};
 
 use paper_board::Board;
 
-// An arc, in both words that keep it. It takes these two alone, since propagation lends no more.
+// An arc, in both words that keep it. It takes these two arrays alone: so its clauses say all that it alters.
 pub fn link(before: &mut [u64; Board::JOBS], after: &mut [u64; Board::JOBS], from: usize, to: usize)
     requires { (from < job_limit) × (to < job_limit) }
     ensures before_after { before.new ≡ set before.old to (with (get_or before.old to 0) from) }
@@ -35,7 +38,8 @@ pub fn is_joined(board: &Board, from: usize, to: usize) -> bool
 #[tactic(auto, using(paper_rules::specs::Update::Shown::showing))]
 pub fn join(board: &mut Board, from: usize, to: usize)
     requires { (from < job_limit) × (to < job_limit) }
-    ensures { from < board.old.jobs → to < board.old.jobs → Within board.old → updates.update board.old (is_arc from to) ≡ some board.new }
+    ensures kept { ArcsAlone board.old board.new }
+    ensures joined { (b : boards.Board) → from < b.jobs → to < b.jobs → let c = filled b b.lengths b.earliest b.latest board.old.marks board.old.after board.old.before in Within c → updates.update c (is_arc from to) ≡ some (filled b b.lengths b.earliest b.latest board.old.marks board.new.after board.new.before) }
 {
     if !is_joined(board, from, to) {
         link(&mut board.before, &mut board.after, from, to);

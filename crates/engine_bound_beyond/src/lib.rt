@@ -57,7 +57,8 @@ fn bound_of(bounds: Bounds<'_>, job: usize, set: u64, neighbours: Neighbours<'_>
 }
 
 // R4 and R5: the bound that the valid jobs beyond a job on one side leave to it, where it is above its own. The neighbours are those on
-// the side of the bounds.
+// the side of the bounds. Kept out of its caller, who asks it of few jobs and passes over all others at once.
+#[inline(never)]
 pub fn bound_beyond(
     bounds: Bounds<'_>,
     job: usize,

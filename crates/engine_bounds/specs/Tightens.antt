@@ -21,6 +21,13 @@ abbrev pub Tightens : Side → ℕ → ℤ → Board → Bool → Board → Type
 Tightens s j z b true c = update b (is_bound s j z) ≡ some c
 Tightens s j z b false c = (update b (is_bound s j z) ≡ exclude b j) × (c ≡ b)
 
+-- the same on any board with job j that has the windows, lengths and marks of `old`, which become those of `new`
+abbrev pub TightensOnAny : Side → ℕ → ℤ → Board → Bool → Board → Type 0
+TightensOnAny s j z old r new =
+    (b : Board) → j < b.jobs
+    → Tightens s j z (filled b old.lengths old.earliest old.latest old.marks b.after b.before) r
+    (filled b new.lengths new.earliest new.latest new.marks b.after b.before)
+
 module _ (b : Board) (s : Side) (j : ℕ) (t : ℤ) (job : j < b.jobs) (new : bound_shown s (turned s t) (row_of b j) ≡ false) where
   -- the window that job j is given
   abbrev smaller : Window

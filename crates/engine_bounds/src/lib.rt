@@ -6,9 +6,10 @@ ghost use Rattle.ground_arithmetic.specs.Time.{Moderate};
 ghost use Rattle.paper_board.specs.Paper.Limits.{job_limit};
 ghost use Rattle.paper_board.specs.Paper.View.{row_of};
 ghost use Rattle.paper_board.specs.Paper.Values.{side_of, turned};
+ghost use Rattle.paper_rules.specs.Update.Alone.{WindowsAlone};
 ghost use Rattle.paper_rules.specs.Update.Shown.{bound_shown};
 ghost use Rattle.engine_windows.specs.Windows.{window_of};
-ghost use Rattle.engine_bounds.specs.Tightens.{Tightens};
+ghost use Rattle.engine_bounds.specs.Tightens.{TightensOnAny};
 
 use engine_windows::Window;
 use paper_board::Board;
@@ -37,7 +38,8 @@ pub fn is_bounded(board: &Board, side: Side, job: usize, time: i32) -> bool
 #[tactic(auto, using(crate::specs::Tightens::tightening))]
 pub fn tighten(board: &mut Board, side: Side, job: usize, time: i32) -> bool
     requires { (job < job_limit) × Moderate time × Moderate (get_or board.old.earliest job (pos 0)) × Moderate (get_or board.old.lengths job (pos 0)) }
-    ensures { job < board.old.jobs → Tightens (side_of side) job (turned (side_of side) time) board.old result board.new }
+    ensures kept { WindowsAlone board.old board.new }
+    ensures tightens { TightensOnAny (side_of side) job (turned (side_of side) time) board.old result board.new }
 {
     if is_bounded(board, side, job, time) {
         return true;

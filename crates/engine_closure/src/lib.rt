@@ -3,6 +3,7 @@
 
 ghost use Rattle.std.specs.Prelude.{◌≡◌};
 ghost use Rattle.paper_board.specs.Paper.Limits.{Within};
+ghost use Rattle.paper_rules.specs.Update.Alone.{ArraysAlone};
 ghost use Rattle.paper_rules.specs.Update.Possibly.{possibly};
 ghost use Rattle.paper_closure.specs.Closure as closing;
 
@@ -17,7 +18,8 @@ use paper_board::Board;
 // most of them at the least cost; that none is left is what the search shows.
 pub fn closure(board: &mut Board, due: Agenda) -> Option<()>
     requires { Within board.old }
-    ensures { closing.closure board.old ≡ possibly result board.new }
+    ensures kept { ArraysAlone board.old board.new }
+    ensures closed { closing.closure board.old ≡ possibly result board.new }
 {
     let mut due = due;
     loop {

@@ -1,6 +1,6 @@
 -- Detectable precedence is sound: a job that would end too late after another comes before it, as R3 infers.
 use Rattle.std.specs.Prelude.{◌≡◌, true, List, ◌≢◌, ℕ, ◌<◌, ◌^◌, ℤ, pos, ◌+ℤ◌, get_or, set}
-use Rattle.std.proofs.Common.{ap}
+use Rattle.std.proofs.Common.{sym, ap}
 use Rattle.std.specs.Int.Signed.{lt_z}
 use Rattle.ground_sets.specs.Bit.{bit, difference, with, without}
 use Rattle.ground_sets.specs.BitLaws.{bit_difference, bit_without, without_lt}
@@ -67,6 +67,12 @@ module _ (earliest latest lengths : List ℤ) (before after : List ℕ) where
       second first before' after' e d λ b h p derived.
       let test = rw (← p.read.is_latest, ← p.read.is_lengths, ← p.read.is_earliest) at late in
       r3 first second p.live.0 p.live.1 p.differ (omega (whole, test))
+
+  -- the same pair, named the other way round
+  pub turned_pair : (first second : ℕ) (before' after' : List ℕ) → Sound (Pair first second earliest latest lengths) before after before' after'
+      → Sound (Pair second first earliest latest lengths) before after before' after'
+  turned_pair first second before' after' run b h p =
+      run b h (record { live = (p.live.1, p.live.0); differ = λ e. p.differ (sym e); read = p.read })
 
   -- one other job more
   pub beside_more : (job others : ℕ) (before' after' : List ℕ) → Sound (Beside job others earliest latest lengths) before after before' after'

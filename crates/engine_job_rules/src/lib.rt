@@ -13,7 +13,9 @@ use engine_sums::bounds::{Bounds, Windows};
 use engine_windows::Window;
 use paper_board::facts::{Fact, Side};
 
-// What the valid jobs on one side of a job infer of its window. Where another job represents it there, nothing is left to infer.
+// What the valid jobs on one side of a job infer of its window. Where another job represents it there, nothing is left to infer: made a part of
+// its caller, it costs no call then.
+#[inline(always)]
 fn at_side(
     bounds: Bounds<'_>,
     job: usize,

@@ -10,18 +10,21 @@ ghost use Rattle.engine_sums.specs.Sums as sums;
 
 use engine_energy::{energy_bound, whole};
 use engine_makespan::in_order;
-use engine_order::Order;
+use engine_order::Ranks;
 use engine_sums::bounds::Bounds;
-use engine_sums::{above, turned};
+use engine_sums::{above, bound, turned};
 use ground_walks::Members;
+use paper_board::Board;
+use paper_board::facts::Side;
 
 // Jobs of a set: those with a bound of `start` or more.
-fn bounded_from(bounds: Bounds<'_>, set: u64, start: i32) -> u64
+fn bounded_from(side: Side, times: &[i32; Board::JOBS], set: u64, start: i32) -> u64
+    requires { sums.Times times.now }
     ensures { Subset result set }
 {
     let mut found = 0;
     for k in Members::of(set) {
-        if start <= bounds.at(k) {
+        if start <= bound(side, times, k) {
             found = ground_sets::with(found, k);
         }
     }
@@ -38,7 +41,7 @@ fn decides(bounds: Bounds<'_>, set: u64, low: i32, start: i32, end: i32) -> bool
     if end <= low {
         return true;
     }
-    let block = bounded_from(bounds, set, start);
+    let block = bounded_from(bounds.side, bounds.times, set, start);
     if block == 0 {
         return false;
     }
@@ -47,7 +50,7 @@ fn decides(bounds: Bounds<'_>, set: u64, low: i32, start: i32, end: i32) -> bool
 }
 
 // The greatest sum of a set of jobs, where it is above the floor, a time: by an order of the jobs, where one is known and decides it.
-pub fn ordered_bound(bounds: Bounds<'_>, set: u64, floor: i32, order: &Order) -> Option<i32>
+pub fn ordered_bound(bounds: Bounds<'_>, set: u64, floor: i32, order: Ranks) -> Option<i32>
     requires { Moderate floor }
     ensures { sums.Exceeds (sums.Sum (paper.side_of bounds.entry.side) bounds.entry.times.now bounds.entry.lengths.now set) (paper.turned (paper.side_of bounds.entry.side) floor) (sums.bound_of (paper.side_of bounds.entry.side) result) }
 {

@@ -6,15 +6,21 @@ use Rattle.std.proofs.Math.Decide.{dec_lt}
 use Rattle.ground_sets.specs.Bit.{bit, width, union}
 use Rattle.ground_sets.specs.BitLaws.{bit_zero, bit_high, bit_ext, union_none}
 use Rattle.ground_arithmetic.specs.Bools.{refuted, is_false}
+use Rattle.ground_arithmetic.specs.Linear.{whole}
 use Rattle.paper_board.specs.declared.Board.{Board}
 use Rattle.paper_board.specs.Paper.View.{Row, row_of}
 use Rattle.paper_board.specs.Paper.Limits.{zero_row, RowLimits}
-use Rattle.paper_board.specs.Paper.Tests.{is_length, is_time}
+use Rattle.paper_board.specs.Paper.Tests.{between, is_length, is_time}
 use Rattle.paper_board.specs.BoardTests.WithinLimits.{is_zero, is_zero_row, fits}
-use Rattle.paper_board.specs.BoardTests.Decides.{Decides, restated, retested, holds, negated, ◌and◌, eq}
-use Rattle.paper_board.proofs.LimitsDecided.{decides_zero, decides_fits, decides_zero_row}
+use Rattle.paper_board.specs.BoardTests.Decides.{Decides, restated, retested, same_decision, holds, negated, ◌and◌, eq}
+use Rattle.paper_board.proofs.LimitsDecided.{decides_between, decides_zero, decides_fits, decides_zero_row}
 
 -- ---- rows
+
+-- a test of 0 is one of a range
+pub zero_between : (z : ℤ) → between (pos 0) (pos 0) z ≡ is_zero z
+zero_between z =
+    same_decision (restated (decides_between (pos 0) (pos 0) z) (λ h. omega whole) (λ h. omega whole)) (decides_zero z)
 
 pub is_zero_yes : (z : ℤ) → z ≡ pos 0 → is_zero z ≡ true
 is_zero_yes z = (decides_zero z).show

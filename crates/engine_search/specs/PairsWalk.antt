@@ -2,22 +2,23 @@
 -- searched, and nothing is left to infer there.
 use Rattle.std.specs.Prelude.{◌≡◌, refl, List, ◌≢◌, Bool, true, false, ℕ, ◌<◌, ◌^◌, ℤ, pos, ◌+ℤ◌, get_or}
 use Rattle.std.specs.Prelude as std
-use Rattle.std.proofs.Common.{ap, ◌∙◌, subst, ne_eqb}
+use Rattle.std.proofs.Common.{ap, ◌∙◌, subst, arith, ne_eqb}
 use Rattle.std.proofs.Math.Decide.{ℕ_discrete}
 use Rattle.std.proofs.Math.Option.{Option, none, some}
-use Rattle.ground_sets.specs.Bit.{bit, with}
-use Rattle.ground_sets.specs.BitLaws.{bit_with}
+use Rattle.ground_sets.specs.Bit.{bit, difference, with}
+use Rattle.ground_sets.specs.BitLaws.{bit_difference, bit_with, part_at_most}
 use Rattle.ground_walks.specs.Walk.{Left}
-use Rattle.ground_arithmetic.specs.Bools.{refuted}
+use Rattle.ground_arithmetic.specs.Bools.{is_false, refuted}
 use Rattle.paper_board.specs.declared.Board.{Board}
-use Rattle.paper_board.specs.Paper.View.{View, Live, view}
+use Rattle.paper_board.specs.Paper.View.{View, Live, Side, view}
 use Rattle.paper_board.specs.Paper.Facts.{Fact}
 use Rattle.paper_board.specs.Paper.Limits.{job_limit, Within}
 use Rattle.paper_board.specs.Paper.Tests.{live}
-use Rattle.paper_board.specs.BoardTests.Decides.{Decides, retested, live_is}
+use Rattle.paper_board.specs.BoardTests.Decides.{Decides, retested, ◌and◌, negated, holds, live_is}
 use Rattle.paper_rules.specs.Inference.Infers.{Obeys}
 use Rattle.engine_job_rules.specs.JobSearched.{JobRead, JobSettled}
 use Rattle.engine_job_rules.specs.JobSearched as jobs
+use Rattle.engine_job_rules.specs.SideSettled.{SideSettled}
 use Rattle.engine_findings.specs.Searched.{Searched, PairObeys}
 use Rattle.engine_pair_rules.specs.declared.Pair.{Pair}
 use Rattle.engine_pair_rules.specs.PairSearched.{PairRead}
@@ -78,6 +79,15 @@ module _ {b : Board} {lives valids : ℕ} {earliest latest lengths : List ℤ} {
         member = λ x e. (live_bit x).yes e;
         done = λ x l e. absurd (refuted e ((live_bit x).show l));
       }
+
+  -- the live jobs that are left no more are settled
+  pub done_settled : {left done : ℕ} → JobsLeft (view b) left → done ≡ difference job_limit lives left
+      → (s : Side) (x : ℕ) → bit done x ≡ true → SideSettled (view b) s x
+  done_settled {left} {done} jobs e s x member =
+      let fits : left < 2 ^ job_limit = omega (arith, width, part_at_most left lives λ y m. (live_bit y).show (jobs.member y m)) in
+      let visited = retested (ap (λ w. bit w x) e ∙ bit_difference job_limit lives left x width fits) (live_bit x and negated (holds (bit left x))) in
+      let (live, out) = visited.yes member in
+      (jobs.done x live (is_false (bit left x) out)).settled s
 
 -- one more job is settled
 pub settled_with : (v : View) (done i : ℕ) → ((k : ℕ) → bit done k ≡ true → JobSettled v k) → JobSettled v i

@@ -5,6 +5,7 @@ ghost use Rattle.std.specs.Prelude.{◌≡◌, ◌<◌, ◌≤◌};
 ghost use Rattle.paper_board.specs.Paper.Limits.{job_limit, Within};
 ghost use Rattle.paper_rules.specs.Update.Updates as updates;
 ghost use Rattle.paper_rules.specs.Update.Strike as struck;
+ghost use Rattle.paper_rules.specs.Update.Alone.{ArraysAlone};
 ghost use Rattle.paper_rules.specs.Update.Possibly.{possibly};
 
 use paper_board::Board;
@@ -40,10 +41,11 @@ pub fn strike(board: &mut Board, set: u64)
 }
 
 // "makes an undecided job invalid and a valid one a contradiction"
-#[tactic(auto, using(paper_rules::specs::Update::Excluded::excluding))]
+#[tactic(auto, using(paper_rules::specs::Update::Excluded::excluding), unfolding(paper_rules::specs::Update::Strike::strike_below))]
 pub fn exclude(board: &mut Board, job: usize) -> Option<()>
     requires { (board.old.jobs ≤ job_limit) × (job < board.old.jobs) }
-    ensures { Within board.old → updates.exclude board.old job ≡ possibly result board.new }
+    ensures kept { ArraysAlone board.old board.new }
+    ensures excluded { Within board.old → updates.exclude board.old job ≡ possibly result board.new }
 {
     let mark = board.marks[job];
     if mark == Board::VALID {

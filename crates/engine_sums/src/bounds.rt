@@ -5,7 +5,7 @@ ghost use Rattle.paper_board.specs.Paper.Limits.{job_limit};
 ghost use Rattle.paper_board.specs.Paper.Values as paper;
 ghost use Rattle.engine_sums.specs.Sums as sums;
 
-use crate::{above, turned};
+use crate::{above, bound, turned};
 use paper_board::Board;
 use paper_board::facts::Side;
 
@@ -25,7 +25,7 @@ impl<'a> Bounds<'a> {
         requires { k < job_limit }
         ensures { result ≡ sums.bound_at (paper.side_of self.entry.side) self.entry.times.now k }
     {
-        turned(self.side, self.times[k])
+        bound(self.side, self.times, k)
     }
 
     // The bound that the job at place k leaves to the jobs beyond it.

@@ -12,6 +12,8 @@ pub mod Appended
 pub mod Possibly
 pub mod PartlyChanged
 pub mod Strike
+pub mod Alone
+pub mod AloneLaws
 pub mod StrikeLaws
 pub mod Excluded
 pub mod Shown

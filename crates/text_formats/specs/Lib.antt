@@ -2,3 +2,5 @@
 pub mod Format
 -- what the proofs stand on: one byte of a format after the other
 pub mod Printed
+pub mod ByteTakes
+pub mod Numbers

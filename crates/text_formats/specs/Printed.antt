@@ -6,16 +6,17 @@ use Rattle.std.specs.Int.{w32}
 use Rattle.std.proofs.lemmas.Int.{to_z-of_z}
 use Rattle.text_decimals.specs.Decimal.{natural, decimal}
 use Rattle.text_decimals.specs.Magnitude.{held}
-use Rattle.text_decimals.specs.Written.{Held, Written, nothing_written, append_written}
+use Rattle.text_decimals.specs.declared.Page.{Page}
+use Rattle.text_decimals.specs.Written.{Written, nothing_written, append_written}
 use Rattle.text_formats.specs.Format.{filled, natural_mark, number_mark, room}
 use Rattle.text_decimals.specs.Rest.{rest, rest_drop}
 
-pub none_printed : (o : Held) (f ns : List ℕ) (zs : List ℤ) → length f < 1 → Written o o (filled f ns zs) (room f)
+pub none_printed : (o : Page) (f ns : List ℕ) (zs : List ℤ) → length f < 1 → Written o o (filled f ns zs) (room f)
 unfolding filled
 none_printed o [] ns zs e = nothing_written o
 none_printed o (c ∷ f) ns zs e = absurd (omega arith)
 
-module _ {o p q : Held} where
+module _ {o p q : Page} where
   pub natural_printed : (f ns : List ℕ) (zs : List ℤ) → 0 < length f → get_or f 0 0 ≡ natural_mark
       → Written o p (natural (get_or ns 0 0)) 20 → Written p q (filled (rest f 1) (rest ns 1) zs) (room (rest f 1))
       → Written o q (filled f ns zs) (room f)

@@ -1,5 +1,5 @@
--- One text for each form: a line that is a form is just the text of that form, and that text is that form. So each form has one text and each line is
--- at most one form.
+-- "Single spaces, no other blanks": a line that is a form is just the text of that form, and that text is that form. So each form has one text and
+-- each line is at most one form.
 use Rattle.std.specs.Prelude.{ℕ, zero, suc, ◌+◌, ◌<◌, ℤ, pos, length, get_or, drop, true, Option, Some, None, List, [], ◌∷◌, ◌≡◌, refl}
 use Rattle.std.proofs.Common.{drop_of_length-le, drop-cons, sym, ap, ◌∙◌, arith}
 use Rattle.std.proofs.lemmas.Option.{none-some}

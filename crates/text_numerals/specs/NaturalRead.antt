@@ -28,6 +28,9 @@ pub short_fits : (z : ℤ) → Short z → SFits w32 z
 short_fits (pos n) h = record { sfits = omega arith }
 short_fits (negsuc n) h = record { sfits = omega arith }
 
+pub nothing_is_no_number : (k : ℕ) (z : ℤ) → None ≡ found k z → ⊥
+nothing_is_no_number k z e = cc
+
 pub found_same : {j k : ℕ} {y z : ℤ} → found j y ≡ found k z → (j ≡ k) × (y ≡ z)
 found_same {j} {k} {y} {z} e =
     let m : Numeral = record { length = j; value = y } in

@@ -4,7 +4,8 @@ use Rattle.std.proofs.Math.Path.{refl}
 use Rattle.std.proofs.Common.{le_refl, arith, le-leb}
 use Rattle.std.proofs.lemmas.Bool.{lt-leb}
 use Rattle.std.proofs.Math.ListN.{drop_of_length-le}
-use Rattle.text_decimals.specs.Written.{Held, Written}
+use Rattle.text_decimals.specs.declared.Page.{Page}
+use Rattle.text_decimals.specs.Written.{text_of, Written}
 use Rattle.paper_board.specs.declared.Board.{Board}
 use Rattle.paper_board.specs.declared.Refusal.TheVariants as Refused
 use Rattle.paper_board.specs.Paper.Limits.{empty_board}
@@ -25,9 +26,9 @@ module _ (t : List ℕ) (b : Board) (empty : b ≡ empty_board empty_books) wher
   overloaded_continues = rw empty (record { output = refl; board = refl })
 
   -- "A text refused as 11 gives the line `(no 11)` and no other; none of its forms is carried out."
-  pub overloaded_answers : (old new : Held) → load_limit < length t → old.text ≡ []
+  pub overloaded_answers : (old new : Page) → load_limit < length t → text_of old ≡ []
       → Written old new (refusal_text (number_of Refused.Load)) answer_room
-      → Answers (serve_text t) t new.text (record { board = b; read = length t })
+      → Answers (serve_text t) t (text_of new) (record { board = b; read = length t })
   unfolding serve_text
   overloaded_answers old new over cleared w =
       rw (lt-leb (length t) load_limit over)

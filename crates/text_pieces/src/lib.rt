@@ -2,6 +2,7 @@
 #![tactic(auto)]
 
 ghost use Rattle.std.specs.Prelude.{◌≡◌, true, ◌≤◌};
+ghost use Rattle.text_decimals.specs.Written.{text_of, capacity_of, SameBuffer};
 ghost use Rattle.paper_closure.specs.Passes.{passes};
 ghost use Rattle.text_replies.specs.Room.{answer_room};
 ghost use Rattle.text_forms.specs.Paper.Lines.{lines_of};
@@ -28,9 +29,10 @@ pub struct Piece {
 // Writes the answers to as many lines as the page has room for, at least one. Each line is read from where the last one ended.
 pub fn next(board: Board, text: &[u8], page: &mut Page<'_>) -> Piece
     requires passes { passes board ≡ true }
-    requires room { answer_room ≤ page.old.capacity }
-    ensures answers { Answers (paper.serve board (lines_of text.now)) text.now page.new.text result }
-    ensures capacity { page.new.capacity ≡ page.old.capacity }
+    requires room { answer_room ≤ capacity_of page.old }
+    ensures answers { Answers (paper.serve board (lines_of text.now)) text.now (text_of page.new) result }
+    ensures capacity { capacity_of page.new ≡ capacity_of page.old }
+    ensures same_buffer { SameBuffer page.old page.new }
 {
     page.clear();
     let mut board = board;
@@ -54,9 +56,10 @@ pub fn next(board: Board, text: &[u8], page: &mut Page<'_>) -> Piece
 
 // The first piece of a text, from an empty board.
 pub fn start(text: &[u8], page: &mut Page<'_>) -> Piece
-    requires { answer_room ≤ page.old.capacity }
-    ensures answers { Answers (paper.serve_text text.now) text.now page.new.text result }
-    ensures capacity { page.new.capacity ≡ page.old.capacity }
+    requires { answer_room ≤ capacity_of page.old }
+    ensures answers { Answers (paper.serve_text text.now) text.now (text_of page.new) result }
+    ensures capacity { capacity_of page.new ≡ capacity_of page.old }
+    ensures same_buffer { SameBuffer page.old page.new }
 {
     if LOAD < text.len() {
         page.clear();

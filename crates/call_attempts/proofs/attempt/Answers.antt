@@ -3,4 +3,4 @@ use Rattle.call_statements.specs.Stated.{stated_within}
 use Rattle.call_attempts.proofs.attempt.Goals as goal
 
 pub closure-requires : goal.closure-requires
-closure-requires c = stated_within _ c.requires.0 _ c.requires.1 _ c.in_ok-due.ensures
+closure-requires c = stated_within _ c.requires.0 _ c.requires.1 _ c.in_ok-due.ensures.shown

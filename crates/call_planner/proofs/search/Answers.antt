@@ -55,7 +55,8 @@ loop-unplaced-preserved-in_default c =
 pub returns-then-tries-budget : goal.returns-then-tries-budget
 returns-then-tries-budget c =
     let taken = rw c.loop-unplaced.invariant.0 at c.in-Some.ensures.steps.1 in
-    c.unplanned-then-tries-budget.ensures ∙ overspent _ c.requires _ _ _ _ _ _ c.loop-unplaced.invariant.1 c.loop-unplaced-test.true taken c.if-tries-budget.true
+    c.unplanned-then-tries-budget.ensures ∙ overspent _ c.requires _ _ _ _ _ _ c.loop-unplaced.invariant.1 c.loop-unplaced-test.true
+    (λ e. omega (arith, e, taken.falls)) c.if-tries-budget.true
 
 pub push-requires : goal.push-requires
 push-requires c = room c.args.board.now c.requires _ _ _ _ _ _ c.loop-unplaced.invariant.1 c.loop-unplaced-test.true

@@ -8,8 +8,8 @@ loop-k-init c =
     let start : c.into_iter-k-iterator.result.left ≡ c.args.set = cc in
     (rw start λ x e. e, subset_none _)
 
-pub loop-k-preserved-then-start-at : goal.loop-k-preserved-then-start-at
-loop-k-preserved-then-start-at c =
+pub loop-k-preserved-then-start-bound : goal.loop-k-preserved-then-start-bound
+loop-k-preserved-then-start-bound c =
     let (left, found) = c.loop-k.invariant in
     let taken = c.in-Some.ensures.steps.1 in
     (λ x e. left x (taken.inside x e), rw c.with-found.ensures (subset_with _ _ _ found (left _ taken.member)))

@@ -1,7 +1,9 @@
 -- All jobs of a set become invalid at once: "An invalid job holds length 0, E 0, D 0 and no arcs". What it means is in
 -- StrikeLaws; here, that the code does it place by place.
-use Rattle.std.specs.Prelude.{◌≡◌, refl, cond, ℕ, ◌+◌, pos}
+use Rattle.std.specs.Prelude.{◌≡◌, refl, true, false, cond, ℕ, ◌+◌, pos, get_or}
 use Rattle.std.proofs.Common.{ap, ◌∙◌}
+use Rattle.std.proofs.Math.ListN as lists
+use Rattle.std.proofs.lemmas.List.{set-get_or}
 use Rattle.ground_sets.specs.Bit.{bit, difference}
 use Rattle.paper_board.specs.declared.Board.{Board}
 use Rattle.paper_board.specs.Paper.Limits.{job_limit}
@@ -41,7 +43,26 @@ strike_below b set n =
 abbrev pub strike : Board → ℕ → Board
 strike b set = strike_below b set b.jobs
 
--- ---- the code: a loop over the jobs
+-- ---- the code: one place, and a loop over the jobs
+
+module _ (b : Board) (set k : ℕ) where
+  pub at_member : bit set k ≡ true
+      → filled b
+      (lists.set b.lengths k (pos 0))
+      (lists.set b.earliest k (pos 0))
+      (lists.set b.latest k (pos 0))
+      (lists.set b.marks k 2)
+      (lists.set b.after k 0)
+      (lists.set b.before k 0)
+      ≡ strike_at b set k
+  at_member e = rw e
+
+  -- to store again what is there changes nothing
+  pub at_other : (after before : ℕ) → bit set k ≡ false → after ≡ difference job_limit (get_or b.after k 0) set
+      → before ≡ difference job_limit (get_or b.before k 0) set
+      → filled b b.lengths b.earliest b.latest b.marks (lists.set b.after k after) (lists.set b.before k before)
+      ≡ strike_at b set k
+  at_other after before e onward into = rw (e, ← onward, ← into) (simp set-get_or)
 
 pub none_below : (b : Board) (set : ℕ) → b ≡ strike_below b set 0
 unfolding strike_below partly

@@ -8,7 +8,7 @@ use Rattle.text_pieces.proofs.next.Goals as goal
 pub returns-in_default-clause-answers : goal.returns-in_default-clause-answers
 returns-in_default-clause-answers c =
     let some = eqb-false (length c.loop-page.rest.now) 0 (sym c.loop-page-test.ensures) in
-    last _ _ _ _ _ c.loop-page.invariant.1 _ (omega (arith, some)) (no_end _ (sym c.in_default.ensures)) c.put_refusal.ensures
+    last _ _ _ _ _ c.loop-page.invariant.2 _ (omega (arith, some)) (no_end _ (sym c.in_default.ensures)) c.put_refusal.ensures
 
 pub loop-page-preserved : goal.loop-page-preserved
 loop-page-preserved c =
@@ -16,5 +16,5 @@ loop-page-preserved c =
     let (is, less) = ends_at left c.in-Some.end (sym c.in-Some.ensures) in
     let written = rw (c.read.ensures, is) at c.carry_out-board.ensures.written in
     let board = rw (c.read.ensures, is) at c.carry_out-board.ensures.board_value in
-    let state = piece_line _ _ c.loop-page.page _ _ c.loop-page.invariant.1 c.carry_out-board.new.page _ (omega (arith, is, less)) written board in
-    (c.carry_out-board.ensures.written.capacity ∙ c.loop-page.invariant.0, rw is state)
+    let state = piece_line _ _ c.loop-page.page _ _ c.loop-page.invariant.2 c.carry_out-board.new.page _ (omega (arith, is, less)) written board in
+    (c.carry_out-board.ensures.written.capacity ∙ c.loop-page.invariant.0, c.carry_out-board.ensures.written.same_buffer ∙ c.loop-page.invariant.1, rw is state)
