@@ -25,7 +25,7 @@ fn start(text: &[u8], buffer: &mut [u8]) -> (Piece, usize)
 }
 
 fn main(rt: HostRuntime) -> io::Result<()> {
-    let mut buffer = [0u8; ANSWER_ROOM];
+    let mut buffer = [0u8; 2 * ANSWER_ROOM];
     for z in [0, i32::MAX, i32::MIN] {
         let end = put_number(&mut buffer, z);
         text(&rt, &buffer[..end])?;
