@@ -8,7 +8,7 @@
  * Threads: the library keeps nothing between calls, so that calls on different boards may run at the same time, and const calls on one
  * board too; other calls on one board need the caller's lock.
  * Memory: no heap and no files; of the C library it uses memcpy and memset alone.
- * Stack: 16 kilobytes suffice for every call; an entry takes the most, some 13.
+ * Stack: 16 kilobytes suffice for every call.
  *
  * Link with libbayboard, static or shared (Linux on x86-64): `hosts/library` makes it in target/hosts/lib, and `hosts/install PREFIX`
  * installs it with this header and a file for pkg-config. */

@@ -8,7 +8,7 @@ use Rattle.paper_board.specs.declared.Board.{Board}
 use Rattle.paper_board.specs.Paper.Facts.{Fact, AboutJobs}
 use Rattle.paper_board.specs.Paper.View as Rows
 use Rattle.paper_board.specs.Paper.Limits.{job_limit, Fits, Within}
-use Rattle.paper_board.specs.Paper.Parts.{with_jobs}
+use Rattle.paper_board.specs.Paper.Parts.{filled, with_jobs}
 use Rattle.paper_board.specs.Paper.Values.{fact_of}
 use Rattle.paper_rules.specs.Update.Updates.{append, update, ◌and_then◌}
 use Rattle.paper_rules.specs.Update.Extension.{Extends, HasRow, Updated}
@@ -20,7 +20,6 @@ use Rattle.paper_entries.proofs.Allowed.{AllAboutJobs}
 use Rattle.paper_entries.specs.ShowsEntry.{HoldAll}
 use Rattle.paper_entries.proofs.RawShown.{updated_all}
 use Rattle.paper_entries.specs.Paper.Enter.{update_all}
-use Rattle.paper_board.specs.Paper.Parts as parts
 use Rattle.call_statements.specs.declared.Stated.{Stated}
 use Rattle.call_statements.specs.declared.Stated.TheVariants.{Row, One, Two}
 
@@ -93,7 +92,7 @@ two_shown b f g e d = rw (e, d)
 
 pub row_stated : (b : Board) (length start end : ℤ) (mark : ℕ)
     → raw_of b (Row length start end mark)
-    ≡ some (parts.filled (parts.with_jobs b (suc b.jobs)) (set b.lengths b.jobs length) (set b.earliest b.jobs start) (set b.latest b.jobs end) (set b.marks b.jobs mark) b.after b.before)
+    ≡ some (filled (grown b (Row length start end mark)) (set b.lengths b.jobs length) (set b.earliest b.jobs start) (set b.latest b.jobs end) (set b.marks b.jobs mark) b.after b.before)
 row_stated b length start end mark = refl
 
 -- ---- facts put on the board

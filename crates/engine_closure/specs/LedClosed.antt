@@ -32,7 +32,7 @@ module _ (b c : Board) (within : Within b) (run : Derived b c) where
   pub arrays_closed : Obeys (view c) → closure b ≡ some c
   arrays_closed obeys = sym (derived_closure b c within run obeys)
 
-  -- there is no board
+  -- propagation finds that there is no board
   pub arrays_none : Derives c none → closure b ≡ none
   arrays_none out = sym (derives_closure b within (derives_then b c run none out))
 
@@ -50,10 +50,6 @@ module _ (b c : Board) (within : Within b) (run : Derived b c) where
   -- a mark would have to change
   pub arrays_contradict : (f : Fact) → Unshown f c → update c f ≡ none → closure b ≡ none
   arrays_contradict f new step = sym (derived_none b c within run f new.0 step) ∙ step
-
--- propagation finds that there is no board
-pub led_none : (b d : Board) → Within b → Derived b d → Derives d none → closure b ≡ none
-led_none b d within run out = arrays_none b d within run out
 
 -- Inferences lead from the board b over d to c, which has these live and valid jobs.
 module _ (b d c : Board) (within : Within b) (run : Derived b d) (lives valids : ℕ)

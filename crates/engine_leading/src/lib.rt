@@ -42,7 +42,7 @@ fn bound_left(
     if order.count == 0 {
         return energy_bound(bounds, set, floor);
     }
-    ordered_bound(bounds, set, floor, order.ranks())
+    ordered_bound(bounds, set, floor, order.ranking())
 }
 
 // The valid jobs beyond a job, and a bound that they leave, where there is one. Many jobs in a row have the same ones beyond them: then the

@@ -9,7 +9,7 @@ ghost use Rattle.paper_board.specs.Paper.Values.{side_of};
 ghost use Rattle.engine_sums.specs.Sums.{Sum, Exceeds};
 ghost use Rattle.engine_makespan.specs.Makespan.{EndInRange, Sequenced};
 
-use engine_order::Ranks;
+use engine_order::Ranking;
 use engine_sums::bounds::Bounds;
 use paper_board::Board;
 
@@ -54,7 +54,7 @@ fn append_eight(bounds: Bounds<'_>, jobs: u64, earlier: Sequence) -> Sequence
 {
     let mut sequence = earlier;
     let mut next = jobs;
-    for _ in 0..Ranks::BYTES {
+    for _ in 0..Ranking::BYTES {
         let k = (next % 64) as usize;
         next = next >> 8;
         sequence = append(bounds, k, sequence);
@@ -64,7 +64,7 @@ fn append_eight(bounds: Bounds<'_>, jobs: u64, earlier: Sequence) -> Sequence
 
 // The jobs of a set in an order, as far as it has them: where none are left, no sum of theirs is above the end. The eights are counted, since of a
 // range by steps the check doesn't know that it ends.
-pub fn in_order(bounds: Bounds<'_>, set: u64, order: Ranks) -> Sequence
+pub fn in_order(bounds: Bounds<'_>, set: u64, order: Ranking) -> Sequence
     ensures end_in_range { EndInRange bounds.entry.lengths.now result.left result.end }
     ensures exceeds { result.left ≡ 0 → Exceeds (Sum (side_of bounds.entry.side) bounds.entry.times.now bounds.entry.lengths.now set) result.end none }
 {
@@ -73,8 +73,8 @@ pub fn in_order(bounds: Bounds<'_>, set: u64, order: Ranks) -> Sequence
         start: Board::FIRST_MINUTE,
         end: Board::FIRST_MINUTE,
     };
-    for n in 0..Board::JOBS / Ranks::BYTES {
-        let rank = n * Ranks::BYTES;
+    for n in 0..Board::JOBS / Ranking::BYTES {
+        let rank = n * Ranking::BYTES;
         if sequence.left == 0 || order.count <= rank {
             break;
         }

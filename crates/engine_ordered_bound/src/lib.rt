@@ -10,7 +10,7 @@ ghost use Rattle.engine_sums.specs.Sums as sums;
 
 use engine_energy::{energy_bound, whole};
 use engine_makespan::in_order;
-use engine_order::Ranks;
+use engine_order::Ranking;
 use engine_sums::bounds::Bounds;
 use engine_sums::{above, bound, turned};
 use ground_walks::Members;
@@ -50,7 +50,7 @@ fn decides(bounds: Bounds<'_>, set: u64, low: i32, start: i32, end: i32) -> bool
 }
 
 // The greatest sum of a set of jobs, where it is above the floor, a time: by an order of the jobs, where one is known and decides it.
-pub fn ordered_bound(bounds: Bounds<'_>, set: u64, floor: i32, order: Ranks) -> Option<i32>
+pub fn ordered_bound(bounds: Bounds<'_>, set: u64, floor: i32, order: Ranking) -> Option<i32>
     requires { Moderate floor }
     ensures { sums.Exceeds (sums.Sum (paper.side_of bounds.entry.side) bounds.entry.times.now bounds.entry.lengths.now set) (paper.turned (paper.side_of bounds.entry.side) floor) (sums.bound_of (paper.side_of bounds.entry.side) result) }
 {

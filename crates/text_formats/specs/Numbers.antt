@@ -1,4 +1,4 @@
--- A format filled in with numbers that the code holds as bits, which give them back: `search (one_number, rules)` proves a caller of `print`.
+-- A format filled in with numbers that the code holds as bits, which give them back.
 use Rattle.std.specs.Prelude.{ℕ, ◌≤◌, ℤ, List, [], ◌∷◌}
 use Rattle.std.specs.Int.{w32}
 use Rattle.std.proofs.Common.{SFits}
